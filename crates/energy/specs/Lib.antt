@@ -1,0 +1,2 @@
+-- What the contracts of `energy` cite.
+pub mod Root

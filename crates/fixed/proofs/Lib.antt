@@ -1,0 +1,8 @@
+-- The laws that belong to no one function.
+pub mod Clips
+pub mod Bounds
+pub mod Signs
+pub mod Shifts
+pub mod Norms
+pub mod Lines
+pub mod Tables

@@ -1,0 +1,4 @@
+-- What the contracts of `fixed` cite.
+pub mod Clip
+pub mod Operators
+pub mod Line

@@ -1,0 +1,3 @@
+-- What the contracts of `logarithm` cite.
+pub mod Logarithms
+pub mod Powers

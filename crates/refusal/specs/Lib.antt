@@ -1,0 +1,2 @@
+-- What the contracts of `refusal`, and of every entry that refuses, cite.
+pub mod Refused

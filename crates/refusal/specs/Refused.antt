@@ -1,0 +1,51 @@
+-- 01, 'What is turned down': the number and the detail of each case. Every contract that speaks of a refusal speaks through these.
+use mathlib.Core.Bool.{true, false}
+use mathlib.Core.List.{List}
+use Prim.Native.Nat.{ℕ, suc}
+use lib.IntN.{ℤ, pos, negsuc}
+use Rattle.refusal.specs.declared.Refusal.{Refusal}
+use Rattle.refusal.specs.declared.Refusal.the-variants.{Length, Subframe, LimitChoice, OpenLoopLag, Order, RelativeIndex, PulseLag, Exponent, Fraction, Positions, Signs, Kind, FeedEnd}
+use Rattle.refusal.specs.declared.Detail.{Detail}
+
+abbrev pub number : Refusal → ℕ
+number (Length n) = 1
+number (Subframe n) = 2
+number (LimitChoice n) = 2
+number (OpenLoopLag n) = 3
+number (Order n) = 4
+number (RelativeIndex n) = 5
+number (PulseLag n) = 6
+number (Exponent z) = 7
+number (Fraction n) = 7
+number (Positions n) = 8
+number (Signs n) = 8
+number (Kind n) = 9
+number (FeedEnd n) = 10
+
+abbrev pub detail : Refusal → ℤ
+detail (Length n) = pos n
+detail (Subframe n) = pos n
+detail (LimitChoice n) = pos n
+detail (OpenLoopLag n) = pos n
+detail (Order n) = pos n
+detail (RelativeIndex n) = pos n
+detail (PulseLag n) = pos n
+detail (Exponent z) = z
+detail (Fraction n) = pos n
+detail (Positions n) = pos n
+detail (Signs n) = pos n
+detail (Kind n) = pos n
+detail (FeedEnd n) = pos n
+
+-- the detail as the struct that holds it
+abbrev pub sign-magnitude : ℤ → Detail
+sign-magnitude (pos n) = record { negative = false; magnitude = n }
+sign-magnitude (negsuc n) = record { negative = true; magnitude = suc n }
+
+-- what an entry answers, as 01 gives it: its values in the order in which they are printed, or a number and a detail
+pub data Told : Type 0 where
+  values : List ℤ → Told
+  refused : ℕ → ℤ → Told
+
+abbrev pub turned-down : Refusal → Told
+turned-down r = refused (number r) (detail r)
