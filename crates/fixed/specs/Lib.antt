@@ -2,3 +2,4 @@
 pub mod Clip
 pub mod Operators
 pub mod Line
+pub mod Opens

@@ -154,6 +154,7 @@ pub fn deposit_high(v: i16) -> i32
 
 // ---- A long as two halves, and the products by them.
 
+#[repr(C)]
 pub struct Halves {
     pub high: i16,
     pub low: i16,

@@ -79,6 +79,7 @@ const POW2_TABLE: [u16; 33] = [
 ];
 
 // The logarithm to base 2: a whole number and a fraction of 15 bits.
+#[repr(C)]
 pub struct Logarithm {
     pub exponent: u8,
     pub fraction_q15: u16,

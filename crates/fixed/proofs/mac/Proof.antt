@@ -15,12 +15,13 @@ returns : tie.Need-returns
 unfolding L-mac
 returns c =
     let s = c .before .before in
-    simp
-    (toZ-ofZ (s .fits .sum),
+    simp (
+      toZ-ofZ (s .fits .sum),
       toZ-ofZ (s .fits .a),
       toZ-ofZ (s .fits .b),
       got w32 (c .add32 .ok) (c .add32 .ensures),
-      got w32 (c .before .product .ok) (c .before .product .ensures))
+      got w32 (c .before .product .ok) (c .before .product .ensures),
+    )
 
 pub mac-spec : {M : Type 1} → statement M
 mac-spec = tie.close (tie.spec product-requires add32-requires returns)

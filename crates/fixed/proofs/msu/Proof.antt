@@ -15,12 +15,13 @@ returns : tie.Need-returns
 unfolding L-msu
 returns c =
     let s = c .before .before in
-    simp
-    (toZ-ofZ (s .fits .sum),
+    simp (
+      toZ-ofZ (s .fits .sum),
       toZ-ofZ (s .fits .a),
       toZ-ofZ (s .fits .b),
       got w32 (c .sub32 .ok) (c .sub32 .ensures),
-      got w32 (c .before .product .ok) (c .before .product .ensures))
+      got w32 (c .before .product .ok) (c .before .product .ensures),
+    )
 
 pub msu-spec : {M : Type 1} → statement M
 msu-spec = tie.close (tie.spec product-requires sub32-requires returns)

@@ -44,8 +44,8 @@ returns c =
     let b7 = b6 .before in
     let b8 = b7 .before in
     let b9 = b8 .before in
-    simp
-    (toZ-ofZ (b9 .fits .a),
+    simp (
+      toZ-ofZ (b9 .fits .a),
       toZ-ofZ (b9 .fits .b),
       got w32 (c .mac2 .ok) (c .mac2 .ensures),
       got w16 (b1 .fractional2 .ok) (b1 .fractional2 .ensures),
@@ -55,7 +55,8 @@ returns c =
       got w16 (b5 .low .ok) (b5 .low .ensures),
       got w32 (b6 .product .ok) (b6 .product .ensures),
       got w16 (b7 .high2 .ok) (b7 .high2 .ensures),
-      got w16 (b8 .high .ok) (b8 .high .ensures))
+      got w16 (b8 .high .ok) (b8 .high .ensures),
+    )
 
 pub multiply-spec : {M : Type 1} → statement M
 multiply-spec =

@@ -28,14 +28,15 @@ returns c =
     let b3 = b2 .before in
     let b4 = b3 .before in
     let b5 = b4 .before in
-    simp
-    (toZ-ofZ (b5 .fits .a),
+    simp (
+      toZ-ofZ (b5 .fits .a),
       toZ-ofZ (b5 .fits .n),
       got w32 (c .mac .ok) (c .mac .ensures),
       got w16 (b1 .fractional .ok) (b1 .fractional .ensures),
       got w16 (b2 .low .ok) (b2 .low .ensures),
       got w32 (b3 .product .ok) (b3 .product .ensures),
-      got w16 (b4 .high .ok) (b4 .high .ensures))
+      got w16 (b4 .high .ok) (b4 .high .ensures),
+    )
 
 pub multiply-word-spec : {M : Type 1} → statement M
 multiply-word-spec =

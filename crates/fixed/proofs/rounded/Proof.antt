@@ -14,10 +14,11 @@ high-requires c κs = tt
 returns : tie.Need-returns
 unfolding round
 returns c =
-    simp
-    (toZ-ofZ (c .before .before .fits .v),
+    simp (
+      toZ-ofZ (c .before .before .fits .v),
       got w16 (c .high .ok) (c .high .ensures),
-      got w32 (c .before .add32 .ok) (c .before .add32 .ensures))
+      got w32 (c .before .add32 .ok) (c .before .add32 .ensures),
+    )
 
 pub rounded-spec : {M : Type 1} → statement M
 rounded-spec = tie.close (tie.spec add32-requires high-requires returns)

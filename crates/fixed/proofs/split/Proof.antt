@@ -15,10 +15,11 @@ low-requires c κs = tt
 returns : tie.Need-returns
 unfolding L-Extract
 returns c =
-    simp
-    (toZ-ofZ (c .before .before .fits .v),
+    simp (
+      toZ-ofZ (c .before .before .fits .v),
       got w16 (c .low .ok) (c .low .ensures),
-      got w16 (c .before .high .ok) (c .before .high .ensures))
+      got w16 (c .before .high .ok) (c .before .high .ensures),
+    )
 
 pub split-spec : {M : Type 1} → statement M
 split-spec = tie.close (tie.spec high-requires low-requires returns)

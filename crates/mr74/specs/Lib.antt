@@ -1,0 +1,2 @@
+-- What the contracts of `mr74` cite.
+pub mod Crossing

@@ -1,0 +1,2 @@
+-- The proof of the statement.
+pub mod Computed
