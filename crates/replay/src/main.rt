@@ -96,7 +96,17 @@ fn answer_of_words(operator: u8, a: i16, b: i16) -> i32 {
     }
 }
 
+// In parts of eight: the check of one long match takes half a minute.
 fn print_name(operator: u8) {
+    match operator {
+        1..=8 => print_name_from_1(operator),
+        9..=16 => print_name_from_9(operator),
+        17..=24 => print_name_from_17(operator),
+        _ => print_name_from_25(operator),
+    }
+}
+
+fn print_name_from_1(operator: u8) {
     match operator {
         1 => io::write_all(STDOUT_FILENO, b"clip16"),
         2 => io::write_all(STDOUT_FILENO, b"clip32"),
@@ -106,6 +116,13 @@ fn print_name(operator: u8) {
         6 => io::write_all(STDOUT_FILENO, b"absolute16"),
         7 => io::write_all(STDOUT_FILENO, b"add32"),
         8 => io::write_all(STDOUT_FILENO, b"sub32"),
+        _ => io::write_all(STDOUT_FILENO, b"unknown"),
+    }
+    ;
+}
+
+fn print_name_from_9(operator: u8) {
+    match operator {
         9 => io::write_all(STDOUT_FILENO, b"negate32"),
         10 => io::write_all(STDOUT_FILENO, b"absolute32"),
         11 => io::write_all(STDOUT_FILENO, b"product"),
@@ -114,6 +131,13 @@ fn print_name(operator: u8) {
         14 => io::write_all(STDOUT_FILENO, b"fractional"),
         15 => io::write_all(STDOUT_FILENO, b"rounded"),
         16 => io::write_all(STDOUT_FILENO, b"high"),
+        _ => io::write_all(STDOUT_FILENO, b"unknown"),
+    }
+    ;
+}
+
+fn print_name_from_17(operator: u8) {
+    match operator {
         17 => io::write_all(STDOUT_FILENO, b"deposit_high"),
         18 => io::write_all(STDOUT_FILENO, b"low_word"),
         19 => io::write_all(STDOUT_FILENO, b"split"),
@@ -122,6 +146,13 @@ fn print_name(operator: u8) {
         22 => io::write_all(STDOUT_FILENO, b"shift"),
         23 => io::write_all(STDOUT_FILENO, b"shift_word"),
         24 => io::write_all(STDOUT_FILENO, b"even"),
+        _ => io::write_all(STDOUT_FILENO, b"unknown"),
+    }
+    ;
+}
+
+fn print_name_from_25(operator: u8) {
+    match operator {
         25 => io::write_all(STDOUT_FILENO, b"normalize"),
         26 => io::write_all(STDOUT_FILENO, b"unsigned_abs"),
         27 => io::write_all(STDOUT_FILENO, b"divide"),

@@ -6,7 +6,7 @@ use native.Mathlib.Omega.{arith}
 use lib.IntN.{ℤ, pos, negsuc, negℤ, natAbs, _*ℤ_}
 use lib.Signed.{mag, ltZ}
 use mir.Syntax.{w16, w32}
-use mir.Val.{SFits}
+use mir.Val.{SFits, toZ, ofZ}
 use mir.Facts.{toZ-ofZ}
 use borrow.Author.Tests.{ltb-true, ltb-false}
 use Rattle.fixed.specs.Clip.{clip}
@@ -15,6 +15,10 @@ use Rattle.fixed.proofs.Bounds.{signed, fits-16-32, product-32, abs-fit
 use Rattle.fixed.proofs.Clips.{nope, clip-id}
 use Rattle.fixed.proofs.product.Statement.{statement}
 use Rattle.fixed.proofs.product.Tie as tie
+
+-- what the local reads that holds the product
+read : {a b : ℤ} → SFits w16 a → SFits w16 b → toZ w32 (ofZ w32 (toZ w32 (ofZ w32 (toZ w16 (ofZ w16 a))) *ℤ toZ w32 (ofZ w32 (toZ w16 (ofZ w16 b))))) ≡ a *ℤ b
+read f g = let f′ = fits-16-32 f in let g′ = fits-16-32 g in let p = product-32 f g in simp toZ-ofZ
 
 -- above 2 ^ 30 - 1, twice the product is past the end
 doubled-over : (z : ℤ) → ltZ (pos 1073741823) z ≡ true → pos 2147483647 ≡ clip 31 (pos 2 *ℤ z)
@@ -48,33 +52,21 @@ unfolding L-mult
 returns c =
     let f = c .before .fits .a in
     let g = c .before .fits .b in
-    let f′ = fits-16-32 f in
-    let g′ = fits-16-32 g in
-    let p = product-32 f g in
-    let t = c .if1 .taken in
-    doubled-over (c .before .args .a *ℤ c .before .args .b) (simp toZ-ofZ at t)
+    doubled-over (c .before .args .a *ℤ c .before .args .b) (rw (read f g) at (c .if1 .taken))
 
 mul-result : tie.Need-mul-result
 mul-result c =
     let f = c .before .fits .a in
     let g = c .before .fits .b in
-    let f′ = fits-16-32 f in
-    let g′ = fits-16-32 g in
-    let p = product-32 f g in
-    let t = c .if1 .left in
-    simp toZ-ofZ (doubled-fits f g (simp toZ-ofZ at t))
+    rw (read f g) (doubled-fits f g (rw (read f g) at (c .if1 .left)))
 
 returns-2 : tie.Need-returns-2
 unfolding L-mult
 returns-2 c =
     let f = c .before .fits .a in
     let g = c .before .fits .b in
-    let f′ = fits-16-32 f in
-    let g′ = fits-16-32 g in
-    let p = product-32 f g in
-    let t = c .if1 .left in
-    let d = doubled-fits f g (simp toZ-ofZ at t) in
-    simp toZ-ofZ (sym (clip-id 31 (pos 2 *ℤ (c .before .args .a *ℤ c .before .args .b)) (d .sfits)))
+    let d = doubled-fits f g (rw (read f g) at (c .if1 .left)) in
+    rw (read f g, toZ-ofZ d) (sym (clip-id 31 (pos 2 *ℤ (c .before .args .a *ℤ c .before .args .b)) (d .sfits)))
 
 pub product-spec : {M : Type 1} → statement M
 product-spec = tie.close (tie.spec cast-p cast-p-2 mul-p returns mul-result returns-2)

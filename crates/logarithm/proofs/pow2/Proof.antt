@@ -14,18 +14,24 @@ cast-t4 c = search needs
 
 returns : tie.Need-returns
 unfolding Pow2
-returns c = rw (lt-ltb _ _ (c .if1 .taken), toZ-pos w16 {n = c .before .args .exponent} (omega arith))
+returns c = rw (lt-ltb 30 (c .before .args .exponent) (c .if1 .taken), toZ-pos w16 {n = c .before .args .exponent} (omega arith))
 
 returns-2 : tie.Need-returns-2
 unfolding Pow2
-returns-2 c = rw (le-ltb _ _ (c .before .if1 .left), lt-ltb _ _ (c .if2 .taken))
+returns-2 c = let s = c .before .before in rw (le-ltb 30 (s .args .exponent) (c .before .if1 .left), lt-ltb 32767 (s .args .fraction-q15) (c .if2 .taken))
 
 bounded-pow2-requires : tie.Need-bounded-pow2-requires
 bounded-pow2-requires c κs = search needs
 
 returns-3 : tie.Need-returns-3
 unfolding Pow2
-returns-3 c = rw (le-ltb _ _ (c .before .before .if1 .left), le-ltb _ _ (c .before .if2 .left), got w32 (c .bounded-pow2 .ok) (c .bounded-pow2 .ensures))
+returns-3 c =
+    let s = c .before .before .before in
+    rw (
+      le-ltb 30 (s .args .exponent) (c .before .before .if1 .left),
+      le-ltb 32767 (s .args .fraction-q15) (c .before .if2 .left),
+      got w32 (c .bounded-pow2 .ok) (c .bounded-pow2 .ensures),
+    )
 
 pub pow2-spec : {M : Type 1} → statement M
 pow2-spec = tie.close (tie.spec cast-t4 returns returns-2 bounded-pow2-requires returns-3)

@@ -1,0 +1,266 @@
+//! Compiles the published Rust into the oracle and links the library.
+//!
+//! The published files are copied to the output folder as they stand, with the texts of
+//! `REPLACED` replaced so that private functions can be called. Nothing of them is kept in this
+//! repository.
+
+use std::{
+    env, fs,
+    path::{Path, PathBuf},
+};
+
+/// The published files that are compiled, below `codec/mr74/`.
+const TAKEN: &[&str] = &[
+    "adaptive.rs",
+    "codebook.rs",
+    "codebook/search.rs",
+    "encoder_filtering.rs",
+    "encoder_stability.rs",
+    "energy.rs",
+    "gain.rs",
+    "gain/quantization.rs",
+    "logarithm.rs",
+    "lpc.rs",
+    "pitch.rs",
+    "pitch/open_loop.rs",
+    "pitch/search.rs",
+    "postfilter.rs",
+    "spectral.rs",
+    "synthesis.rs",
+];
+
+/// Stand-ins for modules that are not published, or that need such modules: (file, text).
+/// Every other module that is declared and not taken is left empty.
+const STAND_INS: &[(&str, &str)] = &[
+    // The other stages need only its frame length.
+    ("decoder.rs", "pub const FRAME_SAMPLES: usize = 160;\n"),
+    // `spectral.rs` names the type. It has no values, so nothing can be decoded from it.
+    (
+        "sid.rs",
+        "pub enum SidParameters {}
+impl SidParameters {
+    pub fn lsf_indices(&self) -> [u16; 3] {
+        match *self {}
+    }
+    pub fn residual_index(&self) -> u8 {
+        match *self {}
+    }
+}
+",
+    ),
+    // Empty tables: decoding a spectrum panics instead of giving a wrong answer.
+    (
+        "spectral/tables.rs",
+        "pub const FIRST: [[i16; 3]; 0] = [];
+pub const SECOND: [[i16; 3]; 0] = [];
+pub const THIRD: [[i16; 4]; 0] = [];
+pub const MEAN: [i16; 0] = [];
+pub const PREDICTOR: [i16; 0] = [];
+pub const SID_RESIDUAL: [[i16; 10]; 0] = [];
+",
+    ),
+];
+
+/// The texts that are replaced: (file, old text, new text, expected number of occurrences).
+#[rustfmt::skip]
+const REPLACED: &[(&str, &str, &str, usize)] = &[
+    ("adaptive.rs", "fn mac(", "pub fn mac(", 1),
+    ("codebook/search.rs", "fn fractional(", "pub fn fractional(", 1),
+    ("codebook/search.rs", "fn normalize(", "pub fn normalize(", 1),
+    ("codebook/search.rs", "fn product(", "pub fn product(", 1),
+    ("codebook/search.rs", "fn rounded(", "pub fn rounded(", 1),
+    ("codebook/search.rs", "fn scaled(", "pub fn scaled(", 1),
+    ("energy.rs", "fn doubled_product(", "pub fn doubled_product(", 1),
+    ("energy.rs", "fn multiply_q15(", "pub fn multiply_q15(", 1),
+    ("energy.rs", "fn normalization(", "pub fn normalization(", 1),
+    ("energy.rs", "fn rounded(", "pub fn rounded(", 1),
+    ("energy.rs", "fn shift(", "pub fn shift(", 1),
+    ("energy.rs", "pub(super) fn inverse_sqrt(", "pub fn inverse_sqrt(", 1),
+    ("gain.rs", "fn mac(", "pub fn mac(", 1),
+    ("gain.rs", "fn mult(", "pub fn mult(", 1),
+    ("gain.rs", "fn shift_left(", "pub fn shift_left(", 1),
+    ("gain/quantization.rs", "const Q15_SHIFT:", "pub const Q15_SHIFT:", 1),
+    ("gain/quantization.rs", "fn fractional(", "pub fn fractional(", 1),
+    ("gain/quantization.rs", "fn multiply_word(", "pub fn multiply_word(", 1),
+    ("gain/quantization.rs", "fn normalize(", "pub fn normalize(", 1),
+    ("gain/quantization.rs", "fn product(", "pub fn product(", 1),
+    ("gain/quantization.rs", "fn rounded(", "pub fn rounded(", 1),
+    ("gain/quantization.rs", "fn shift(", "pub fn shift(", 1),
+    ("gain/quantization.rs", "fn shift_word(", "pub fn shift_word(", 1),
+    ("lpc.rs", "fn doubled_product(", "pub fn doubled_product(", 1),
+    ("pitch/open_loop.rs", "fn fractional(", "pub fn fractional(", 1),
+    ("pitch/open_loop.rs", "fn multiply(", "pub fn multiply(", 1),
+    ("pitch/open_loop.rs", "fn product(", "pub fn product(", 1),
+    ("pitch/open_loop.rs", "fn shift_word(", "pub fn shift_word(", 1),
+    ("pitch/open_loop.rs", "fn split(", "pub fn split(", 1),
+    ("pitch/search.rs", "fn fractional(", "pub fn fractional(", 1),
+    ("pitch/search.rs", "fn multiply(", "pub fn multiply(", 1),
+    ("pitch/search.rs", "fn product(", "pub fn product(", 1),
+    ("pitch/search.rs", "fn shift(", "pub fn shift(", 1),
+    ("pitch/search.rs", "fn split(", "pub fn split(", 1),
+    ("postfilter.rs", "fn multiply(", "pub fn multiply(", 1),
+    ("postfilter.rs", "fn product(", "pub fn product(", 1),
+    ("postfilter.rs", "fn rounded(", "pub fn rounded(", 1),
+    ("spectral.rs", "fn multiply_q15(", "pub fn multiply_q15(", 1),
+    ("synthesis.rs", "fn saturated(", "pub fn saturated(", 1),
+];
+
+/// The division inside `pitch_gain` is no function of its own. Its text is cut out between these
+/// two, in this file, and becomes one.
+const DIVISION: (&str, &str, &str) = ("gain/quantization.rs", "let ratio = ", ";");
+
+fn main() {
+    let oracle = PathBuf::from(variable("CARGO_MANIFEST_DIR").expect("set by cargo"));
+    let output = PathBuf::from(variable("OUT_DIR").expect("set by cargo"));
+    compile_published(&oracle, &output);
+    link_library(&oracle);
+}
+
+fn compile_published(oracle: &Path, output: &Path) {
+    println!("cargo:rerun-if-env-changed=MR74_RUST");
+    let checkout = match variable("MR74_RUST") {
+        Some(folder) => PathBuf::from(folder),
+        None => oracle.join("../../shared/docs/src"),
+    };
+    let from = checkout.join("crates/bts136/src/codec");
+    if !from.join("mr74.rs").is_file() {
+        panic!(
+            "the published Rust is not at {}: set MR74_RUST to a checkout of it, a folder that \
+             has crates/bts136/src/codec/mr74.rs",
+            checkout.display()
+        );
+    }
+
+    let to = output.join("codec");
+    write(&to.join("mod.rs"), "pub mod mr74;\n");
+    let root = read(&from.join("mr74.rs"));
+    write(&to.join("mr74.rs"), &root);
+
+    // Follows the module declarations from the root file.
+    let mut found = Vec::new();
+    let mut waiting = declared_modules(&root, "");
+    while let Some(file) = waiting.pop() {
+        let text = if TAKEN.contains(&file.as_str()) {
+            let text = read(&from.join("mr74").join(&file));
+            waiting.extend(declared_modules(&text, file.trim_end_matches(".rs")));
+            let replaced = replace(&file, text);
+            found.push(file.clone());
+            replaced
+        } else {
+            STAND_INS
+                .iter()
+                .find(|(stand_in, _)| *stand_in == file)
+                .map_or(String::new(), |(_, text)| text.to_string())
+        };
+        write(&to.join("mr74").join(&file), &text);
+    }
+    for file in TAKEN {
+        if !found.iter().any(|name| name == file) {
+            panic!("the published Rust declares no module for mr74/{file}");
+        }
+    }
+
+    let (file, start, end) = DIVISION;
+    let text = read(&from.join("mr74").join(file));
+    let division = cut(file, &text, start, end);
+    // The path attribute needs the full path, which only this script knows.
+    let published = format!(
+        "#[allow(warnings, clippy::all)]\n\
+         #[path = {:?}]\n\
+         pub mod codec;\n\
+         \n\
+         pub fn pitch_gain_ratio(xy: i16, yy: i16) -> i16 {{\n\
+         \x20   use codec::mr74::gain::quantization::Q15_SHIFT;\n\
+         \x20   {division}\n\
+         }}\n",
+        to.join("mod.rs")
+    );
+    write(&output.join("published.rs"), &published);
+}
+
+/// The files of the modules that a file declares, except its tests. `folder` is where the file's
+/// own modules are.
+fn declared_modules(text: &str, folder: &str) -> Vec<String> {
+    let mut modules = Vec::new();
+    let mut before = "";
+    for line in text.lines().map(str::trim) {
+        let declaration = line.strip_prefix("pub ").unwrap_or(line);
+        let name = declaration
+            .strip_prefix("mod ")
+            .and_then(|rest| rest.strip_suffix(';'));
+        if let Some(name) = name
+            && before != "#[cfg(test)]"
+        {
+            let separator = if folder.is_empty() { "" } else { "/" };
+            modules.push(format!("{folder}{separator}{name}.rs"));
+        }
+        before = line;
+    }
+    modules
+}
+
+fn replace(file: &str, mut text: String) -> String {
+    for (_, old, new, expected) in REPLACED.iter().filter(|entry| entry.0 == file) {
+        let occurrences = text.matches(old).count();
+        if occurrences != *expected {
+            panic!(
+                "the published mr74/{file} has the text `{old}` {occurrences} times, not \
+                 {expected}: see REPLACED in oracle/build.rs"
+            );
+        }
+        text = text.replace(old, new);
+    }
+    text
+}
+
+fn cut<'a>(file: &str, text: &'a str, start: &str, end: &str) -> &'a str {
+    let mut parts = text.split(start).skip(1);
+    match (
+        parts.next().and_then(|part| part.split_once(end)),
+        parts.next(),
+    ) {
+        (Some((cut, _)), None) => cut,
+        _ => panic!(
+            "the published mr74/{file} does not have the text `{start}` .. `{end}` exactly once: \
+             see DIVISION in oracle/build.rs"
+        ),
+    }
+}
+
+fn link_library(oracle: &Path) {
+    println!("cargo:rerun-if-env-changed=MR74_LIB");
+    let folder = match variable("MR74_LIB") {
+        Some(folder) => PathBuf::from(folder),
+        None => oracle.join("../target/staticlib"),
+    };
+    println!("cargo:rustc-link-search=native={}", folder.display());
+    for library in ["mr74", "mr74_leaves"] {
+        let archive = folder.join(format!("lib{library}.a"));
+        if !archive.is_file() {
+            panic!(
+                "{} is missing: `rt staticlib {library}` builds it (oracle/run does), or set \
+                 MR74_LIB to a folder that has it",
+                archive.display()
+            );
+        }
+        println!("cargo:rerun-if-changed={}", archive.display());
+        println!("cargo:rustc-link-lib=static={library}");
+    }
+}
+
+/// An environment variable that is set to no text counts as not set.
+fn variable(name: &str) -> Option<String> {
+    env::var(name).ok().filter(|value| !value.is_empty())
+}
+
+fn read(path: &Path) -> String {
+    println!("cargo:rerun-if-changed={}", path.display());
+    fs::read_to_string(path).unwrap_or_else(|error| panic!("{}: {error}", path.display()))
+}
+
+fn write(path: &Path, text: &str) {
+    let folder = path.parent().expect("a file in a folder");
+    fs::create_dir_all(folder)
+        .and_then(|()| fs::write(path, text))
+        .unwrap_or_else(|error| panic!("{}: {error}", path.display()));
+}

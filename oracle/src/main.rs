@@ -1,0 +1,80 @@
+//! Compares the library with the published Rust and reports where their answers differ.
+//!
+//! Every input is compared where a function has at most 2^32 of them; of the others the
+//! combinations of the ends of the argument types and a fixed pseudo-random sample.
+
+mod compare;
+mod inputs;
+mod operators;
+mod project;
+mod published;
+mod record;
+
+// The published files name each other by `crate::codec`.
+use published::codec;
+
+use std::{
+    env,
+    io::{self, Write},
+    path::Path,
+    process::ExitCode,
+};
+
+const USAGE: &str = "usage: oracle [compare NAME.. | record [FOLDER]]";
+const RECORD_FOLDER: &str = concat!(env!("CARGO_MANIFEST_DIR"), "/../crates/replay");
+
+const DIFFERENT: u8 = 1;
+const UNUSABLE: u8 = 2;
+
+fn main() -> ExitCode {
+    let arguments: Vec<String> = env::args().skip(1).collect();
+    let words: Vec<&str> = arguments.iter().map(String::as_str).collect();
+    let done = match words.as_slice() {
+        [] => compare_functions(&[]),
+        ["compare", names @ ..] => compare_functions(names),
+        ["record"] => record_sample(RECORD_FOLDER),
+        ["record", folder] => record_sample(folder),
+        _ => Err(USAGE.to_string()),
+    };
+    done.unwrap_or_else(|message| {
+        eprintln!("{message}");
+        ExitCode::from(UNUSABLE)
+    })
+}
+
+/// Compares the named functions, or all where none is named.
+fn compare_functions(names: &[&str]) -> Result<ExitCode, String> {
+    let functions = operators::functions();
+    for name in names {
+        if !functions.iter().any(|function| function.name == *name) {
+            let mut known: Vec<_> = functions.iter().map(|function| function.name).collect();
+            known.dedup();
+            return Err(format!("no function {name}; known: {}", known.join(" ")));
+        }
+    }
+    let mut compared = 0;
+    let mut differ = 0;
+    for function in &functions {
+        if !names.is_empty() && !names.contains(&function.name) {
+            continue;
+        }
+        for line in (function.compare)() {
+            compared += line.compared;
+            differ += line.differ;
+            println!("{} {line}", function.name);
+        }
+        io::stdout().flush().map_err(|error| error.to_string())?;
+    }
+    println!("{compared} compared, {differ} differ");
+    Ok(if differ == 0 {
+        ExitCode::SUCCESS
+    } else {
+        ExitCode::from(DIFFERENT)
+    })
+}
+
+fn record_sample(folder: &str) -> Result<ExitCode, String> {
+    let records = record::write(Path::new(folder)).map_err(|error| format!("{folder}: {error}"))?;
+    println!("{records} recorded");
+    Ok(ExitCode::SUCCESS)
+}

@@ -1,0 +1,61 @@
+//! The oracle's side: the published Rust, as the build script compiles it, and the few answers
+//! that no function of it gives.
+
+// Declares `codec`, and `pitch_gain_ratio`, the division inside `pitch_gain`.
+include!(concat!(env!("OUT_DIR"), "/published.rs"));
+
+use codec::mr74::{codebook::search::product, logarithm};
+
+/// The number of the refusal that stands for the published `PowerDomainError`.
+pub const POWER_DOMAIN: u8 = 7;
+
+/// The published power, or the detail of the refusal: the exponent where it is outside its domain,
+/// else the fraction.
+pub fn pow2(exponent: u8, fraction_q15: u16) -> Result<i32, u64> {
+    const MAX_EXPONENT: u8 = 30;
+    logarithm::pow2(exponent, fraction_q15).map_err(|_| {
+        if exponent > MAX_EXPONENT {
+            u64::from(exponent)
+        } else {
+            u64::from(fraction_q15)
+        }
+    })
+}
+
+/// The published Rust subtracts products where it needs to and has no function for it.
+pub fn msu(sum: i32, left: i16, right: i16) -> i32 {
+    sum.saturating_sub(product(left, right))
+}
+
+/// The published flag of an overflow is left aside.
+pub fn saturated(value: i64) -> i32 {
+    codec::mr74::synthesis::saturated(value, &mut false)
+}
+
+/// Where `pitch_gain_ratio` can give the quotient: it halves its 16-bit argument, so it reaches
+/// the lower half of the numerators, and it divides smaller numerators by positive denominators.
+pub fn divides(numerator: i16, denominator: i16) -> bool {
+    (0..=i16::MAX / 2).contains(&numerator) && numerator < denominator
+}
+
+/// The published quotient where there is one, elsewhere the rule, written here: 0 where the
+/// numerator is negative or the denominator is not positive, 32767 where the quotient reaches 1.
+pub fn divide(numerator: i16, denominator: i16) -> i16 {
+    if divides(numerator, denominator) {
+        pitch_gain_ratio(numerator * 2, denominator)
+    } else if numerator < 0 || denominator <= 0 {
+        0
+    } else if numerator >= denominator {
+        i16::MAX
+    } else {
+        ((i32::from(numerator) << 15) / i32::from(denominator)) as i16
+    }
+}
+
+/// Interpolation between two entries of a table, written here in 64 bits: the published functions
+/// that interpolate do so within their own text.
+pub fn interpolated(from: u16, to: u16, mantissa: u32) -> i64 {
+    let fraction = i64::from((mantissa >> 10) & 0x7fff);
+    let (from, to) = (i64::from(from), i64::from(to));
+    (from << 16) - 2 * (from - to) * fraction
+}
