@@ -9,6 +9,7 @@ mod operators;
 mod project;
 mod published;
 mod record;
+mod speed;
 
 // The published files name each other by `crate::codec`.
 use published::codec;
@@ -20,7 +21,7 @@ use std::{
     process::ExitCode,
 };
 
-const USAGE: &str = "usage: oracle [compare NAME.. | record [FOLDER]]";
+const USAGE: &str = "usage: oracle [compare NAME.. | record [FOLDER] | speed]";
 const RECORD_FOLDER: &str = concat!(env!("CARGO_MANIFEST_DIR"), "/../crates/replay");
 
 const DIFFERENT: u8 = 1;
@@ -34,6 +35,10 @@ fn main() -> ExitCode {
         ["compare", names @ ..] => compare_functions(names),
         ["record"] => record_sample(RECORD_FOLDER),
         ["record", folder] => record_sample(folder),
+        ["speed"] => {
+            speed::report();
+            Ok(ExitCode::SUCCESS)
+        }
         _ => Err(USAGE.to_string()),
     };
     done.unwrap_or_else(|message| {

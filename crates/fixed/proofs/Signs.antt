@@ -10,7 +10,7 @@ use lib.Signed.{mag, ltZ, nonNeg, shrZ}
 use mir.Syntax.{Width, w16, w32}
 use mir.Val.{SFits, Fits, hbits}
 use mir.ValLaws.{half-full}
-use borrow.Author.Tests.{ltb-true, ltb-false, le-ltb}
+use borrow.Author.Tests.{ltb-true, ltb-false, le-ltb, lt-ltb}
 use Rattle.fixed.specs.Clip.{clip}
 use Rattle.fixed.specs.Operators.{remainder, positive-or}
 use Rattle.fixed.proofs.Clips.{nope, clip-id}
@@ -22,6 +22,10 @@ sub-le a b h = rw (le-ltb a b h)
 pub pos-sub : (a b : ℕ) → b ≤ a → pos a -ℤ pos b ≡ pos (a - b)
 pos-sub a zero h = ap pos (omega arith)
 pos-sub a (suc b) h = sub-le a (suc b) h
+
+pub sub-above : (a b : ℕ) → a < b → pos a -ℤ pos b ≡ negsuc (b - suc a)
+sub-above a zero h = absurd (omega arith)
+sub-above a (suc b) h = rw (lt-ltb a (suc b) h)
 
 pub neg-pos : (m k : ℕ) → m ≡ suc k → negℤ (pos m) ≡ negsuc k
 neg-pos m k e = rw e

@@ -7,7 +7,8 @@ use lib.ListN.{getD}
 abbrev pub way : ℕ → ℕ
 way m = m / 1024 % 32768
 
--- the point of that line, times 65536. The standard writes L_msu (L_deposit_h (from), from - to, way): the same number
+-- the point of that line, times 65536. The standard writes L_msu (L_deposit_h (from), sub (from, to), way): the same number for words that are not
+-- negative, by the law `line-standard`
 unfoldable pub line : ℕ → ℕ → ℕ → ℕ
 line from to m = 2 * (from * (32768 - way m) + to * way m)
 
