@@ -1,7 +1,7 @@
 // TS 26.073 Inv_sqrt, from energy.rs: one over the root of a long, by a table of 49 entries and a straight line between two of them.
 ghost use mathlib.Core.Path.{_≡_};
-ghost use Prim.Native.Nat.{ℕ, _<_, _≤_, _^_};
-ghost use lib.IntN.{ℤ, pos};
+ghost use Prim.Native.Nat.{_<_, _^_};
+ghost use lib.IntN.{pos};
 ghost use Rattle.energy.specs.Root.{halved, root-in, Inv-sqrt-in, Inv-sqrt};
 
 const INVERSE_TABLE: [u16; 49] = [

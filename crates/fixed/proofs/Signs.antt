@@ -7,7 +7,7 @@ use native.Mathlib.Omega.{arith}
 use lib.Dec.{T, ltb}
 use lib.IntN.{ℤ, pos, negsuc, negℤ, natAbs, subℕ, negℤ-negℤ, _+ℤ_, _-ℤ_, _*ℤ_}
 use lib.Signed.{mag, ltZ, nonNeg, shrZ}
-use mir.Syntax.{Width, w16, w32}
+use mir.Syntax.{Width, w16}
 use mir.Val.{SFits, Fits, hbits}
 use mir.ValLaws.{half-full}
 use borrow.Author.Tests.{ltb-true, ltb-false, le-ltb, lt-ltb}

@@ -1,11 +1,11 @@
 // Words (i16) and longs (i32) in fixed point: TS 26.073's basic operators as small functions that take every value.
 // The Rust repeats them in every file; here they have one home. Each is equated with a number of the integers (specs/Operators.antt).
 ghost use mathlib.Core.Path.{_≡_};
-ghost use Prim.Native.Nat.{ℕ, _≤_, _<_, _^_, min};
-ghost use lib.IntN.{ℤ, pos, natAbs};
+ghost use Prim.Native.Nat.{_<_, _^_, min};
+ghost use lib.IntN.{pos, natAbs};
 ghost use lib.Signed.{mag, shrZ};
 ghost use Rattle.fixed.specs.Clip.{clip};
-ghost use Rattle.fixed.specs.Operators.{add, sub, negate, abs-s, L-add, L-sub, L-negate, L-abs, L-mult, L-mac, L-msu, mult, extract-h, round, extract-l, L-deposit-h, low-half, L-Extract, Mpy-32, Mpy-32-16, shift-at, L-shl, shl, even-bits, norm-l, div-s};
+ghost use Rattle.fixed.specs.Operators.{add, sub, negate, abs-s, L-add, L-sub, L-negate, L-abs, L-mult, L-mac, L-msu, mult, extract-h, round, extract-l, L-deposit-h, low-half, L-Extract, Mpy-32, Mpy-32-16, L-shl, shl, even-bits, norm-l, div-s};
 ghost use Rattle.fixed.specs.Line.{line};
 
 // ---- Clipping: the only two functions that test for a type's ends.

@@ -1,8 +1,8 @@
 -- The table of powers stays below 2 ^ 15, so every power is a long.
 use mathlib.Core.Bool.{Bool}
-use Prim.Native.Nat.{ℕ, zero, suc, _+_, _-_, _*_, _/_, _%_, _^_, _<_, _≤_}
+use Prim.Native.Nat.{ℕ, zero, suc, _+_, _-_, _*_, _/_, _^_, _<_, _≤_}
 use native.Mathlib.Omega.{arith}
-use lib.Dec.{T, leb, leb→le}
+use lib.Dec.{leb, leb→le}
 use lib.ListN.{getD}
 use Rattle.fixed.specs.Line.{table-line}
 use Rattle.fixed.proofs.Lines.{line-le}

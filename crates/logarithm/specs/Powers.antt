@@ -3,7 +3,7 @@ use mathlib.Core.Bool.{cond}
 use mathlib.Core.List.{List, [], _∷_}
 use Prim.Native.Nat.{ℕ, zero, suc, _+_, _-_, _*_, _/_, _%_, _^_}
 use lib.Dec.{ltb}
-use lib.IntN.{ℤ, pos}
+use lib.IntN.{pos}
 use Rattle.fixed.specs.Line.{table-line}
 use Rattle.refusal.specs.Refused.{Told, values, refused, turned-down}
 use Rattle.logarithm.specs.declared.Power.{Power}

@@ -1,8 +1,8 @@
 // TS 26.073 Log2 and Pow2, from logarithm.rs: a table of 33 entries and a straight line between two of them.
 use refusal::Refusal;
 ghost use mathlib.Core.Path.{_≡_};
-ghost use Prim.Native.Nat.{ℕ, _<_, _≤_, _^_};
-ghost use lib.IntN.{ℤ, pos};
+ghost use Prim.Native.Nat.{_<_, _≤_, _^_};
+ghost use lib.IntN.{pos};
 ghost use Rattle.logarithm.specs.Logarithms.{Log2, log2-of};
 ghost use Rattle.logarithm.specs.Powers.{shr-r, power, told, Pow2};
 

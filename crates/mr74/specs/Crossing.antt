@@ -1,7 +1,7 @@
 -- An answer as the struct that crosses to Rust and C: number 0 and the values, or a refusal's number and detail and zeros for the values.
 use mathlib.Core.Bool.{false}
 use mathlib.Core.List.{[], _∷_}
-use lib.IntN.{ℤ, pos}
+use lib.IntN.{pos}
 use Rattle.refusal.specs.Refused.{Told, values, refused, sign-magnitude}
 use Rattle.mr74.specs.declared.PowerAnswer.{PowerAnswer}
 

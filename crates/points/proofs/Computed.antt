@@ -1,6 +1,6 @@
 -- Every point holds, by computing: a declaration each, so that what one computes is let go before the next.
 use mathlib.Core.Path.{refl}
-use mathlib.Core.List.{[], _∷_}
+use mathlib.Core.List.{[]}
 use Prim.Native.Nat.{ℕ}
 use lib.ListN.{getD}
 use Rattle.refusal.specs.Refused.{values}

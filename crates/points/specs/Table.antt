@@ -1,7 +1,7 @@
 -- 01, 'Bench points': each point marked M is a row.
 use mathlib.Core.Path.{_≡_}
 use mathlib.Core.List.{List, [], _∷_}
-use lib.IntN.{ℤ, pos}
+use lib.IntN.{pos}
 use Rattle.refusal.specs.Refused.{Told, values}
 use Rattle.points.specs.Answer.{Question, powerOfTwo, answer}
 

@@ -1,6 +1,6 @@
 // 01, 'What is turned down': one case for each thing that can be wrong, with its detail.
 ghost use mathlib.Core.Path.{_≡_};
-ghost use lib.IntN.{ℤ, pos};
+ghost use lib.IntN.{pos};
 ghost use Rattle.refusal.specs.Refused.{number, detail, sign-magnitude};
 
 pub enum Refusal {

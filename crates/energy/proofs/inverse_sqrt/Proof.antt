@@ -1,4 +1,3 @@
-use mathlib.Core.Path.{refl}
 use mir.Syntax.{w32}
 use mir.Facts.{toZ-ofZ}
 use Rattle.energy.specs.Root.{inverses, Inv-sqrt}

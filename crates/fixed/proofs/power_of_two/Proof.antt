@@ -1,11 +1,10 @@
 use mathlib.Core.Path.{_≡_, ap, _∙_}
-use Prim.Native.Nat.{ℕ, _*_, _%_, _^_, _≤_, min}
+use Prim.Native.Nat.{ℕ, _*_, _%_, _^_, _≤_}
 use native.Mathlib.Nat.{mod-eq-of-lt}
 use native.Mathlib.Omega.{arith}
 use lib.IntN.{pos}
 use lib.Pow.{pow-mono}
 use mir.Syntax.{w64}
-use mir.Val.{SFits}
 use mir.Facts.{toZ-pos}
 use borrow.Author.Needs.{needs}
 use Rattle.fixed.proofs.power_of_two.Statement.{statement}

@@ -1,5 +1,5 @@
 use mathlib.Core.Path.{_≡_, _∙_}
-use lib.IntN.{ℤ, natAbs}
+use lib.IntN.{natAbs}
 use mir.Syntax.{w32}
 use mir.Facts.{toZ-ofZ}
 use Rattle.fixed.proofs.Bounds.{signed, got, fits-16-32}

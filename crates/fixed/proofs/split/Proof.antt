@@ -1,4 +1,3 @@
-use mathlib.Core.Path.{_∙_}
 use mir.Syntax.{w16}
 use mir.Facts.{toZ-ofZ}
 use Rattle.fixed.specs.Operators.{L-Extract}

@@ -1,4 +1,3 @@
-use mathlib.Core.Path.{refl}
 use native.Mathlib.Omega.{arith}
 use mir.Syntax.{w16, w32}
 use mir.Facts.{toZ-pos}
