@@ -17,12 +17,14 @@ mag-abs : (z : ℤ) → mag z ≤ natAbs z
 mag-abs (pos n) = le-refl n
 mag-abs (negsuc n) = omega arith
 
-abs-cond : (c : Bool) (m n k : ℕ) → suc m ≤ k → n ≤ k → natAbs (cond c (negsuc m) (pos n)) ≤ k
-abs-cond true m n k h g = h
-abs-cond false m n k h g = g
+-- what holds of both arms of a test holds of what it picks
+pub either : (P : ℤ → Type 0) (c : Bool) (x y : ℤ) → P x → P y → P (cond c x y)
+either P true x y h g = h
+either P false x y h g = g
 
 abs-sub-suc : (a b : ℕ) → natAbs (subℕ a (suc b)) ≤ a + suc b
-abs-sub-suc a b = abs-cond (ltb a (suc b)) (suc b - suc a) (a - suc b) (a + suc b) (omega arith) (omega arith)
+abs-sub-suc a b =
+    either (λ (z : ℤ). natAbs z ≤ a + suc b) (ltb a (suc b)) (negsuc (suc b - suc a)) (pos (a - suc b)) (omega arith) (omega arith)
 
 pub abs-neg : (z : ℤ) → natAbs (negℤ z) ≡ natAbs z
 abs-neg (pos zero) = refl
@@ -78,6 +80,11 @@ shr-narrow j k (negsuc n) h = lib.Pow.shr-lt j k h
 pub high-fits : {z : ℤ} → SFits w32 z → SFits w16 (shrZ z 65536)
 high-fits {z} f = record { sfits = shr-narrow 15 16 z (f .sfits) }
 
+-- a number of a known bound times a natural number
+pub scaled-fits : (w : Width) (z : ℤ) (n m : ℕ) → natAbs z ≤ n → T (ltb (n * m) (2 ^ hbits w)) → SFits w (z *ℤ pos m)
+scaled-fits w z n m h t =
+    fits-abs w (z *ℤ pos m) (rw (abs-mul z (pos m)) (lt-of-le-of-lt (mul-le-mul h (le-refl m)) (ltb→lt (n * m) (2 ^ hbits w) t)))
+
 -- at the widths in use
 pub fits-16-32 : {z : ℤ} → SFits w16 z → SFits w32 z
 fits-16-32 = sfits-widen tt
@@ -96,11 +103,6 @@ difference-32 = difference-fits w16 w32 tt
 
 pub difference-64 : {a b : ℤ} → SFits w32 a → SFits w32 b → SFits w64 (a -ℤ b)
 difference-64 = difference-fits w32 w64 tt
-
--- a number times a power of two that is known by its value
-pub scaled-fits : (w : Width) (z : ℤ) (n m : ℕ) → natAbs z ≤ n → T (ltb (n * m) (2 ^ hbits w)) → SFits w (z *ℤ pos m)
-scaled-fits w z n m h t =
-    fits-abs w (z *ℤ pos m) (rw (abs-mul z (pos m)) (lt-of-le-of-lt (mul-le-mul h (le-refl m)) (ltb→lt (n * m) (2 ^ hbits w) t)))
 
 pub product-32 : {a b : ℤ} → SFits w16 a → SFits w16 b → SFits w32 (a *ℤ b)
 product-32 = product-fits w16 w16 w32 tt

@@ -43,15 +43,15 @@ clip-mono k {a} {b} h = record { le = go a b (h .le) }
     go (negsuc a) (negsuc b) t = le→leb (min b (2 ^ k - 1)) (min a (2 ^ k - 1)) (omega (arith, leb→le b a t))
 
 -- a test that is both false and true
-pub nope : {X : Type 0} → false ≡ true → X
-nope e = let z : _≡_ {A = ℕ} 0 1 = cc in absurd (omega arith)
+pub contradiction : {X : Type 0} → false ≡ true → X
+contradiction e = let z : _≡_ {A = ℕ} 0 1 = cc in absurd (omega arith)
 
 above : (k : ℕ) (z : ℤ) → ltZ (pos (2 ^ k - 1)) z ≡ true → pos (2 ^ k - 1) ≡ clip k z
 above k (pos n) e = ap pos (omega (arith, ltb-true))
-above k (negsuc n) e = nope e
+above k (negsuc n) e = contradiction e
 
 below : (k : ℕ) (z : ℤ) → ltZ z (negsuc (2 ^ k - 1)) ≡ true → negsuc (2 ^ k - 1) ≡ clip k z
-below k (pos n) e = nope e
+below k (pos n) e = contradiction e
 below k (negsuc n) e = ap negsuc (omega (arith, ltb-true))
 
 inside : (k : ℕ) (z : ℤ) → ltZ (pos (2 ^ k - 1)) z ≡ false → ltZ z (negsuc (2 ^ k - 1)) ≡ false → mag z < 2 ^ k

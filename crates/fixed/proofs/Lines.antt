@@ -12,7 +12,7 @@ use Rattle.fixed.specs.Clip.{clip}
 use Rattle.fixed.specs.Line.{way, line}
 use Rattle.fixed.specs.Operators.{sub, L-sub, L-mult, L-msu, L-deposit-h}
 use Rattle.fixed.proofs.Clips.{clip-id}
-use Rattle.fixed.proofs.Signs.{pos-sub, sub-above}
+use Rattle.fixed.proofs.Signs.{pos-sub, sub-above, mag-neg}
 
 mean : (k a b v w : ℕ) → a ≤ k → b ≤ k → a * v + b * w ≤ k * (v + w)
 mean k a b v w f g = omega (arith, mul-le-mul-right {m = a} {n = k} v f, mul-le-mul-right {m = b} {n = k} w g)
@@ -41,10 +41,6 @@ module _ (a b d v w : ℕ) (whole : v + w ≡ 32768) where
 double-neg : (x : ℕ) → pos 2 *ℤ negℤ (pos x) ≡ negℤ (pos (2 * x))
 double-neg zero = refl
 double-neg (suc x) = refl
-
-mag-neg-lt : (x k : ℕ) → x < k → mag (negℤ (pos x)) < k
-mag-neg-lt zero k h = h
-mag-neg-lt (suc x) k h = omega arith
 
 -- TS 26.073: L_msu (L_deposit_h (from), sub (from, to), way). Nothing is clipped, so it is the point of the line
 pub line-standard : (a b m : ℕ) → a ≤ 32767 → b ≤ 32767 → L-msu (L-deposit-h (pos a)) (sub (pos a) (pos b)) (pos (way m)) ≡ pos (line a b m)
@@ -84,5 +80,5 @@ line-standard a b m f g = go (leb b a) refl
         let h : a < b = leb-false b a e in
         let k : ℕ = b - suc a in
         let x : ℕ = 2 * (suc k * w) in
-        finish (negsuc k) (negℤ (pos x)) (sub-above a b h) (omega arith) (double-neg (suc k * w)) (mag-neg-lt x (2 ^ 31) (narrow (suc k) (omega arith)))
+        finish (negsuc k) (negℤ (pos x)) (sub-above a b h) (omega arith) (double-neg (suc k * w)) (omega (arith, mag-neg x, narrow (suc k) (omega arith)))
         (rises a b (suc k) v w whole (omega arith))

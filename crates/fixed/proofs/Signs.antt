@@ -1,6 +1,6 @@
 -- What a test of a number's sign tells, a magnitude for every width, and the remainder of a floor.
 use mathlib.Core.Path.{_≡_, refl, sym, ap, _∙_}
-use mathlib.Core.Bool.{Bool, true, false, cond}
+use mathlib.Core.Bool.{true, false}
 use Prim.Native.Nat.{ℕ, zero, suc, _+_, _-_, _*_, _/_, _%_, _^_, _<_, _≤_}
 use native.Mathlib.Nat.{div-add-mod', mod-lt}
 use native.Mathlib.Omega.{arith}
@@ -13,7 +13,8 @@ use mir.ValLaws.{half-full}
 use borrow.Author.Tests.{ltb-true, ltb-false, le-ltb, lt-ltb}
 use Rattle.fixed.specs.Clip.{clip}
 use Rattle.fixed.specs.Operators.{remainder, positive-or}
-use Rattle.fixed.proofs.Clips.{nope, clip-id}
+use Rattle.fixed.proofs.Bounds.{either, ok}
+use Rattle.fixed.proofs.Clips.{contradiction, clip-id}
 
 -- ---- differences
 pub sub-le : (a b : ℕ) → b ≤ a → subℕ a b ≡ pos (a - b)
@@ -27,6 +28,10 @@ pub sub-above : (a b : ℕ) → a < b → pos a -ℤ pos b ≡ negsuc (b - suc a
 sub-above a zero h = absurd (omega arith)
 sub-above a (suc b) h = rw (lt-ltb a (suc b) h)
 
+pub mag-neg : (n : ℕ) → mag (negℤ (pos n)) ≤ n - 1
+mag-neg zero = omega arith
+mag-neg (suc n) = omega arith
+
 pub neg-pos : (m k : ℕ) → m ≡ suc k → negℤ (pos m) ≡ negsuc k
 neg-pos m k e = rw e
 
@@ -37,16 +42,16 @@ neg-is (negsuc n) e = refl
 
 pub pos-is : (z : ℤ) → ltZ z (pos 0) ≡ false → z ≡ pos (mag z)
 pos-is (pos n) e = refl
-pos-is (negsuc n) e = nope (sym e)
+pos-is (negsuc n) e = contradiction (sym e)
 
 -- -1 - z of a negative z
-pub flip : (z : ℤ) → ltZ z (pos 0) ≡ true → negsuc 0 -ℤ z ≡ pos (mag z)
-flip z e = rw (neg-is z e) (sub-le (suc (mag z)) 1 (omega arith) ∙ ap pos (omega arith))
+pub complement : (z : ℤ) → ltZ z (pos 0) ≡ true → negsuc 0 -ℤ z ≡ pos (mag z)
+complement z e = rw (neg-is z e) (sub-le (suc (mag z)) 1 (omega arith) ∙ ap pos (omega arith))
 
 -- a number that is not negative, cast to an unsigned type of its width
 pub cast-pos : (w : Width) (z : ℤ) → SFits w z → ltZ z (pos 0) ≡ false → T (nonNeg z) × Fits w (natAbs z)
 cast-pos w (pos n) f e = (tt, record { fits = half-full w (f .sfits) })
-cast-pos w (negsuc n) f e = nope (sym e)
+cast-pos w (negsuc n) f e = contradiction (sym e)
 
 -- |z| by the sign, clipped for every width
 pub abs-below : (z : ℤ) → ltZ z (pos 0) ≡ true → negℤ z ≡ pos (natAbs z)
@@ -54,7 +59,7 @@ abs-below z e = rw (neg-is z e)
 
 pub abs-above : (k : ℕ) (z : ℤ) → ltZ z (pos 0) ≡ false → mag z < 2 ^ k → z ≡ clip k (pos (natAbs z))
 abs-above k (pos n) e h = sym (clip-id k (pos n) h)
-abs-above k (negsuc n) e h = nope (sym e)
+abs-above k (negsuc n) e h = contradiction (sym e)
 
 -- ---- z less the multiple of m at or below it is the remainder
 pub floor-rest : (m : ℕ) (z : ℤ) → 0 < m → z -ℤ shrZ z m *ℤ pos m ≡ pos (remainder z m)
@@ -81,12 +86,8 @@ pub low-rest : (z : ℤ) → shrZ z 2 -ℤ shrZ z 65536 *ℤ pos 32768 ≡ pos (
 low-rest z = rw (← (shr-half z)) (floor-rest 32768 (shrZ z 2) (omega arith))
 
 -- a number below 65536, less 32768, is a word
-mag-cond : (c : Bool) (m n k : ℕ) → m < k → n < k → mag (cond c (negsuc m) (pos n)) < k
-mag-cond true m n k h g = h
-mag-cond false m n k h g = g
-
 pub centred : (r : ℕ) → r < 65536 → SFits w16 (pos r -ℤ pos 32768)
-centred r h = record { sfits = mag-cond (ltb r 32768) (32768 - suc r) (r - 32768) 32768 (omega arith) (omega arith) }
+centred r h = either (SFits w16) (ltb r 32768) (negsuc (32768 - suc r)) (pos (r - 32768)) (ok w16 _ (omega arith)) (ok w16 _ (omega arith))
 
 -- twice the floor of a half fits where the number did
 pub even-fits : (w : Width) (z : ℤ) → 0 < hbits w → SFits w z → SFits w (shrZ z 2 *ℤ pos 2)
@@ -105,12 +106,12 @@ abs-mag-below z e = rw (neg-is z e) (omega arith)
 
 pub abs-mag-above : (z : ℤ) → ltZ z (pos 0) ≡ false → mag z ≡ natAbs z
 abs-mag-above (pos n) e = refl
-abs-mag-above (negsuc n) e = nope (sym e)
+abs-mag-above (negsuc n) e = contradiction (sym e)
 
 -- a number that is not below 1
 pub positive : {w : Width} (z : ℤ) → ltZ z (pos 1) ≡ false → SFits w z → (0 < natAbs z) × (natAbs z < 2 ^ hbits w)
 positive (pos n) e f = (omega (arith, ltb-false n 1 e), f .sfits)
-positive (negsuc n) e f = nope (sym e)
+positive (negsuc n) e f = contradiction (sym e)
 
 -- a function of the positive numbers, by the test against 1
 module _ {A : Type 0} (a : A) (f : ℕ → A) where
@@ -122,4 +123,4 @@ module _ {A : Type 0} (a : A) (f : ℕ → A) where
   pub is-positive : (z : ℤ) → ltZ z (pos 1) ≡ false → f (natAbs z) ≡ positive-or a f z
   is-positive (pos zero) e = absurd (omega (arith, ltb-false 0 1 e))
   is-positive (pos (suc n)) e = refl
-  is-positive (negsuc n) e = nope (sym e)
+  is-positive (negsuc n) e = contradiction (sym e)

@@ -5,6 +5,7 @@ use lib.IntN.{pos}
 use Rattle.refusal.specs.Refused.{Told, values, refused, sign-magnitude}
 use Rattle.mr74.specs.declared.PowerAnswer.{PowerAnswer}
 
+-- `pow2`'s answer has one value
 unfoldable pub power-answer : Told → PowerAnswer
 power-answer (values []) = record { number = 0; negative = false; magnitude = 0; value = pos 0 }
 power-answer (values (v ∷ vs)) = record { number = 0; negative = false; magnitude = 0; value = v }

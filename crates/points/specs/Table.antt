@@ -5,6 +5,7 @@ use lib.IntN.{pos}
 use Rattle.refusal.specs.Refused.{Told, values}
 use Rattle.points.specs.Answer.{Question, powerOfTwo, answer}
 
+-- a question and what 01 says of it
 pub record Point : Type 0 where
   pub asked : Question
   pub told : Told
@@ -12,6 +13,7 @@ pub record Point : Type 0 where
 unfoldable pub points : List Point
 points = record { asked = powerOfTwo 14 0; told = values (pos 16384 ∷ []) } ∷ []
 
+-- the definition answers so
 abbrev pub Holds : Point → Type 0
 Holds p = answer (p .asked) ≡ p .told
 
@@ -19,7 +21,7 @@ abbrev pub Each : List Point → Type 0
 Each [] = Unit {0}
 Each (p ∷ ps) = Holds p × Each ps
 
--- the statement
+-- the statement: every row holds
 unfoldable pub Points : Type 0
 unfolding points
 Points = Each points

@@ -7,6 +7,7 @@ use Rattle.refusal.specs.declared.Refusal.{Refusal}
 use Rattle.refusal.specs.declared.Refusal.the-variants.{Length, Subframe, LimitChoice, OpenLoopLag, Order, RelativeIndex, PulseLag, Exponent, Fraction, Positions, Signs, Kind, FeedEnd}
 use Rattle.refusal.specs.declared.Detail.{Detail}
 
+-- the number of each case
 abbrev pub number : Refusal → ℕ
 number (Length n) = 1
 number (Subframe n) = 2
@@ -22,6 +23,7 @@ number (Signs n) = 8
 number (Kind n) = 9
 number (FeedEnd n) = 10
 
+-- the detail of each case: what its field holds
 abbrev pub detail : Refusal → ℤ
 detail (Length n) = pos n
 detail (Subframe n) = pos n
@@ -47,5 +49,6 @@ pub data Told : Type 0 where
   values : List ℤ → Told
   refused : ℕ → ℤ → Told
 
+-- a refusal so told
 abbrev pub turned-down : Refusal → Told
 turned-down r = refused (number r) (detail r)

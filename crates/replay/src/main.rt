@@ -96,8 +96,8 @@ fn answer_of_words(operator: u8, a: i16, b: i16) -> i32 {
     }
 }
 
-// In parts of eight: the check of one long match takes half a minute.
-fn print_name(operator: u8) {
+// In parts of eight, since one long match is slow to check.
+fn print_name(operator: u8) -> bool {
     match operator {
         1..=8 => print_name_from_1(operator),
         9..=16 => print_name_from_9(operator),
@@ -106,7 +106,7 @@ fn print_name(operator: u8) {
     }
 }
 
-fn print_name_from_1(operator: u8) {
+fn print_name_from_1(operator: u8) -> bool {
     match operator {
         1 => io::write_all(STDOUT_FILENO, b"clip16"),
         2 => io::write_all(STDOUT_FILENO, b"clip32"),
@@ -118,10 +118,9 @@ fn print_name_from_1(operator: u8) {
         8 => io::write_all(STDOUT_FILENO, b"sub32"),
         _ => io::write_all(STDOUT_FILENO, b"unknown"),
     }
-    ;
 }
 
-fn print_name_from_9(operator: u8) {
+fn print_name_from_9(operator: u8) -> bool {
     match operator {
         9 => io::write_all(STDOUT_FILENO, b"negate32"),
         10 => io::write_all(STDOUT_FILENO, b"absolute32"),
@@ -133,10 +132,9 @@ fn print_name_from_9(operator: u8) {
         16 => io::write_all(STDOUT_FILENO, b"high"),
         _ => io::write_all(STDOUT_FILENO, b"unknown"),
     }
-    ;
 }
 
-fn print_name_from_17(operator: u8) {
+fn print_name_from_17(operator: u8) -> bool {
     match operator {
         17 => io::write_all(STDOUT_FILENO, b"deposit_high"),
         18 => io::write_all(STDOUT_FILENO, b"low_word"),
@@ -148,10 +146,9 @@ fn print_name_from_17(operator: u8) {
         24 => io::write_all(STDOUT_FILENO, b"even"),
         _ => io::write_all(STDOUT_FILENO, b"unknown"),
     }
-    ;
 }
 
-fn print_name_from_25(operator: u8) {
+fn print_name_from_25(operator: u8) -> bool {
     match operator {
         25 => io::write_all(STDOUT_FILENO, b"normalize"),
         26 => io::write_all(STDOUT_FILENO, b"unsigned_abs"),
@@ -161,7 +158,6 @@ fn print_name_from_25(operator: u8) {
         30 => io::write_all(STDOUT_FILENO, b"pow2"),
         _ => io::write_all(STDOUT_FILENO, b"unknown"),
     }
-    ;
 }
 
 fn print_arguments(operator: u8, a: i32, b: i32, c: i32) {

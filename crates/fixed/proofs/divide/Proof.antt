@@ -10,7 +10,7 @@ use borrow.Author.Needs.{needs}
 use borrow.Author.Tests.{ltb-true, ltb-false}
 use Rattle.fixed.specs.Operators.{div-s}
 use Rattle.fixed.proofs.Bounds.{signed, fits-16-32, abs-fits}
-use Rattle.fixed.proofs.Clips.{nope}
+use Rattle.fixed.proofs.Clips.{contradiction}
 use Rattle.fixed.proofs.Signs.{positive}
 use Rattle.fixed.proofs.divide.Statement.{statement}
 use Rattle.fixed.proofs.divide.Tie as tie
@@ -30,10 +30,10 @@ below-b (negsuc a) b e = refl
 
 within : (a b : ℤ) → ltZ a (pos 0) ≡ false → ltZ b (pos 1) ≡ false → pos (min (natAbs a * 32768 / natAbs b) 32767) ≡ div-s a b
 unfolding div-s
-within (negsuc a) b e f = nope (sym e)
+within (negsuc a) b e f = contradiction (sym e)
 within (pos a) (pos zero) e f = absurd (omega (arith, ltb-false 0 1 f))
 within (pos a) (pos (suc b)) e f = refl
-within (pos a) (negsuc b) e f = nope (sym f)
+within (pos a) (negsuc b) e f = contradiction (sym f)
 
 -- the two magnitudes
 over : (c : tie.After-unsigned-abs) → c .unsigned-abs .result ≡ natAbs (c .before .before .before .args .a)

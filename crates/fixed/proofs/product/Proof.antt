@@ -1,9 +1,9 @@
 use mathlib.Core.Path.{_≡_, sym, ap}
 use mathlib.Core.Bool.{true, false}
-use Prim.Native.Nat.{ℕ, zero, suc, _-_, _*_, _^_, _<_, _≤_}
+use Prim.Native.Nat.{suc, _-_, _*_, _^_, _<_, _≤_}
 use native.Mathlib.Nat.{mul-le-mul}
 use native.Mathlib.Omega.{arith}
-use lib.IntN.{ℤ, pos, negsuc, negℤ, natAbs, _*ℤ_}
+use lib.IntN.{ℤ, pos, negsuc, natAbs, _*ℤ_}
 use lib.Signed.{mag, ltZ}
 use mir.Syntax.{w16, w32}
 use mir.Val.{SFits, toZ, ofZ}
@@ -12,7 +12,8 @@ use borrow.Author.Tests.{ltb-true, ltb-false}
 use Rattle.fixed.specs.Clip.{clip}
 use Rattle.fixed.specs.Operators.{L-mult}
 use Rattle.fixed.proofs.Bounds.{signed, fits-16-32, product-32, abs-fits, abs-mul, ok}
-use Rattle.fixed.proofs.Clips.{nope, clip-id}
+use Rattle.fixed.proofs.Clips.{contradiction, clip-id}
+use Rattle.fixed.proofs.Signs.{mag-neg}
 use Rattle.fixed.proofs.product.Statement.{statement}
 use Rattle.fixed.proofs.product.Tie as tie
 
@@ -23,13 +24,9 @@ read f g = let f′ = fits-16-32 f in let g′ = fits-16-32 g in let p = product
 -- above 2 ^ 30 - 1, twice the product is past the end
 doubled-over : (z : ℤ) → ltZ (pos 1073741823) z ≡ true → pos 2147483647 ≡ clip 31 (pos 2 *ℤ z)
 doubled-over (pos n) e = ap pos (omega (arith, ltb-true))
-doubled-over (negsuc n) e = nope e
+doubled-over (negsuc n) e = contradiction e
 
 -- below, it fits: no product of words is below -2 ^ 30
-mag-neg : (k : ℕ) → mag (negℤ (pos k)) ≤ k - 1
-mag-neg zero = omega arith
-mag-neg (suc k) = omega arith
-
 mag-doubled : (z : ℤ) → natAbs z ≤ 2 ^ 30 → ltZ (pos 1073741823) z ≡ false → mag (pos 2 *ℤ z) < 2 ^ 31
 mag-doubled (pos n) h e = omega (arith, ltb-false)
 mag-doubled (negsuc n) h e = omega (arith, mag-neg (2 * suc n))
