@@ -93,8 +93,15 @@ const REPLACED: &[(&str, &str, &str, usize)] = &[
     ("pitch/open_loop.rs", "fn product(", "pub fn product(", 1),
     ("pitch/open_loop.rs", "fn shift_word(", "pub fn shift_word(", 1),
     ("pitch/open_loop.rs", "fn split(", "pub fn split(", 1),
+    ("pitch/search.rs", "    next: Subframe,", "    pub next: Subframe,", 1),
+    ("pitch/search.rs", "    previous: PitchLag,", "    pub previous: PitchLag,", 1),
+    ("pitch/search.rs", "const INTERPOLATOR:", "pub const INTERPOLATOR:", 1),
+    ("pitch/search.rs", "fn absolute(", "pub fn absolute(", 1),
     ("pitch/search.rs", "fn fractional(", "pub fn fractional(", 1),
+    ("pitch/search.rs", "fn half(", "pub fn half(", 1),
+    ("pitch/search.rs", "fn interpolate(", "pub fn interpolate(", 1),
     ("pitch/search.rs", "fn multiply(", "pub fn multiply(", 1),
+    ("pitch/search.rs", "fn normalized_correlation(", "pub fn normalized_correlation(", 1),
     ("pitch/search.rs", "fn product(", "pub fn product(", 1),
     ("pitch/search.rs", "fn shift(", "pub fn shift(", 1),
     ("pitch/search.rs", "fn split(", "pub fn split(", 1),
@@ -105,9 +112,55 @@ const REPLACED: &[(&str, &str, &str, usize)] = &[
     ("synthesis.rs", "fn saturated(", "pub fn saturated(", 1),
 ];
 
-/// The division inside `pitch_gain` is no function of its own. Its text is cut out between these
-/// two, in this file, and becomes one.
-const DIVISION: (&str, &str, &str) = ("gain/quantization.rs", "let ratio = ", ";");
+/// A published expression that is no function of its own. Its text is cut out between two others
+/// and becomes one.
+struct Expression {
+    file: &'static str,
+    start: &'static str,
+    end: &'static str,
+    /// How often the expression is expected, always the same.
+    occurrences: usize,
+    /// The function, with `EXPRESSION` where the text goes.
+    function: &'static str,
+}
+
+const EXPRESSIONS: &[Expression] = &[
+    // The division inside `pitch_gain`.
+    Expression {
+        file: "gain/quantization.rs",
+        start: "let ratio = ",
+        end: ";",
+        occurrences: 1,
+        function: "pub fn pitch_gain_ratio(xy: i16, yy: i16) -> i16 {
+    use codec::mr74::gain::quantization::Q15_SHIFT;
+    EXPRESSION
+}
+",
+    },
+    // The two sums inside `normalized_correlation`.
+    Expression {
+        file: "pitch/search.rs",
+        start: "let energy = ",
+        end: ";",
+        occurrences: 2,
+        function: "pub fn energy40(filtered: &[i16; 40]) -> i32 {
+    use codec::mr74::pitch::search::product;
+    EXPRESSION
+}
+",
+    },
+    Expression {
+        file: "pitch/search.rs",
+        start: "let sum = filtered",
+        end: ";",
+        occurrences: 1,
+        function: "pub fn dot40(filtered: &[i16; 40], target: &[i16; 40]) -> i32 {
+    use codec::mr74::pitch::search::product;
+    filtered EXPRESSION
+}
+",
+    },
+];
 
 fn main() {
     let oracle = PathBuf::from(variable("CARGO_MANIFEST_DIR").expect("set by cargo"));
@@ -160,21 +213,17 @@ fn compile_published(oracle: &Path, output: &Path) {
         }
     }
 
-    let (file, start, end) = DIVISION;
-    let text = read(&from.join("mr74").join(file));
-    let division = cut(file, &text, start, end);
     // The path attribute needs the full path, which only this script knows.
-    let published = format!(
+    let mut published = format!(
         "#[allow(warnings, clippy::all)]\n\
          #[path = {:?}]\n\
-         pub mod codec;\n\
-         \n\
-         pub fn pitch_gain_ratio(xy: i16, yy: i16) -> i16 {{\n\
-         \x20   use codec::mr74::gain::quantization::Q15_SHIFT;\n\
-         \x20   {division}\n\
-         }}\n",
+         pub mod codec;\n",
         to.join("mod.rs")
     );
+    for expression in EXPRESSIONS {
+        let text = read(&from.join("mr74").join(expression.file));
+        published.push_str(&function(expression, &text));
+    }
     write(&output.join("published.rs"), &published);
 }
 
@@ -213,18 +262,31 @@ fn replace(file: &str, mut text: String) -> String {
     text
 }
 
-fn cut<'a>(file: &str, text: &'a str, start: &str, end: &str) -> &'a str {
-    let mut parts = text.split(start).skip(1);
-    match (
-        parts.next().and_then(|part| part.split_once(end)),
-        parts.next(),
-    ) {
-        (Some((cut, _)), None) => cut,
-        _ => panic!(
-            "the published mr74/{file} does not have the text `{start}` .. `{end}` exactly once: \
-             see DIVISION in oracle/build.rs"
-        ),
+/// The function that an expression of this file becomes.
+fn function(expression: &Expression, text: &str) -> String {
+    let Expression {
+        file, start, end, ..
+    } = expression;
+    let cuts: Vec<&str> = text
+        .split(start)
+        .skip(1)
+        .filter_map(|part| part.split_once(end))
+        .map(|(cut, _)| cut)
+        .collect();
+    let alike = cuts.windows(2).all(|pair| same_words(pair[0], pair[1]));
+    if cuts.len() != expression.occurrences || !alike {
+        panic!(
+            "the published mr74/{file} does not have the text `{start}` .. `{end}` exactly {} \
+             times, always the same: see EXPRESSIONS in oracle/build.rs",
+            expression.occurrences
+        );
     }
+    expression.function.replace("EXPRESSION", cuts[0])
+}
+
+/// Whether two texts differ at most in their spaces and line ends.
+fn same_words(left: &str, right: &str) -> bool {
+    left.split_whitespace().eq(right.split_whitespace())
 }
 
 fn link_library(oracle: &Path) {

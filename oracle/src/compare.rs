@@ -3,13 +3,45 @@
 use crate::inputs::Inputs;
 use std::{
     fmt::{self, Debug},
+    ops::Range,
     sync::atomic::{AtomicU64, Ordering},
     thread,
 };
 
 const THREADS: usize = 2;
+/// The indexes that a thread takes at once, at most and as a part of all.
 const CHUNK: u64 = 1 << 20;
+const CHUNKS: u64 = 64;
 const SHOWN: usize = 5;
+
+/// A function, or a part of its inputs that has a comparison of its own.
+pub struct Function {
+    pub name: &'static str,
+    pub compare: fn() -> Vec<Line>,
+}
+
+/// `function!(NAME, INPUTS, |ARGUMENTS| OURS, { WITH => OTHER, .. })`
+macro_rules! function {
+    (
+        $name:literal,
+        $inputs:expr,
+        |$arguments:pat_param| $ours:expr,
+        { $($with:literal => $other:expr),+ $(,)? }
+    ) => {
+        $crate::compare::Function {
+            name: $name,
+            compare: || {
+                $crate::compare::compare(
+                    &$inputs,
+                    |$arguments| $ours,
+                    [$($with),+],
+                    |$arguments| [$($other),+],
+                )
+            },
+        }
+    };
+}
+pub(crate) use function;
 
 /// The outcome of comparing one function with one other answer.
 pub struct Line {
@@ -22,7 +54,7 @@ pub struct Line {
 }
 
 impl Line {
-    fn new(with: &'static str) -> Self {
+    pub fn new(with: &'static str) -> Self {
         Self {
             with,
             compared: 0,
@@ -31,8 +63,28 @@ impl Line {
         }
     }
 
+    /// The cases that the inputs must meet, each with how often they did. One that they never met
+    /// counts as differing: equal answers would say nothing about it.
+    pub fn of_cases(counts: impl IntoIterator<Item = (&'static str, u64)>) -> Self {
+        let mut line = Self::new("cases that must occur");
+        for (case, count) in counts {
+            let never = if count == 0 { ": never met" } else { "" };
+            let text = format!("{count:>9} {case}{never}");
+            line.shown.push((line.compared, text));
+            line.compared += 1;
+            line.differ += u64::from(count == 0);
+        }
+        line
+    }
+
     #[cold]
-    fn difference(&mut self, index: u64, input: &dyn Debug, ours: &dyn Debug, other: &dyn Debug) {
+    pub fn difference(
+        &mut self,
+        index: u64,
+        input: &dyn Debug,
+        ours: &dyn Debug,
+        other: &dyn Debug,
+    ) {
         self.differ += 1;
         if self.shown.len() < SHOWN {
             let text = format!("{input:?}: library {ours:?}, expected {other:?}");
@@ -41,7 +93,7 @@ impl Line {
     }
 
     /// Adds the part that another thread compared.
-    fn add(&mut self, part: Line) {
+    pub fn add(&mut self, part: Line) {
         self.compared += part.compared;
         self.differ += part.differ;
         self.shown.extend(part.shown);
@@ -63,6 +115,33 @@ impl fmt::Display for Line {
     }
 }
 
+/// Does the work for all the indexes below `count`, and gives what each thread made of the empty
+/// thing that it started with.
+pub fn in_threads<T: Send>(
+    count: u64,
+    empty: impl Fn() -> T + Sync,
+    work: impl Fn(&mut T, Range<u64>) + Sync,
+) -> [T; THREADS] {
+    // The threads take the next chunk in turn, so each sees its indexes in order.
+    let chunk = (count / CHUNKS).clamp(1, CHUNK);
+    let next = AtomicU64::new(0);
+    let thread = || {
+        let mut made = empty();
+        loop {
+            let start = next.fetch_add(chunk, Ordering::Relaxed);
+            if start >= count {
+                return made;
+            }
+            work(&mut made, start..count.min(start + chunk));
+        }
+    };
+    thread::scope(|scope| {
+        [(); THREADS]
+            .map(|()| scope.spawn(thread))
+            .map(|thread| thread.join().expect("a comparing thread panicked"))
+    })
+}
+
 /// Compares `ours` with each of the answers of `others` on all the inputs, one line an answer.
 ///
 /// The answers of `others` are taken in one pass, so that `ours` is called once an input.
@@ -77,43 +156,30 @@ where
     A: PartialEq + Debug,
     F: Fn(u64) -> Option<I> + Sync,
 {
-    // The threads take the next chunk in turn, so each sees its inputs in the order of the list.
-    let next = AtomicU64::new(0);
-    let work = || {
-        let mut lines = with.map(Line::new);
+    let work = |lines: &mut [Line; N], indexes: Range<u64>| {
         let mut compared = 0;
-        loop {
-            let start = next.fetch_add(CHUNK, Ordering::Relaxed);
-            if start >= inputs.count {
-                break;
-            }
-            for index in start..inputs.count.min(start + CHUNK) {
-                let Some(input) = (inputs.at)(index) else {
-                    continue;
-                };
-                compared += 1;
-                let answer = ours(input);
-                for (line, other) in lines.iter_mut().zip(others(input)) {
-                    if answer != other {
-                        line.difference(index, &input, &answer, &other);
-                    }
+        for index in indexes {
+            let Some(input) = (inputs.at)(index) else {
+                continue;
+            };
+            compared += 1;
+            let answer = ours(input);
+            for (line, other) in lines.iter_mut().zip(others(input)) {
+                if answer != other {
+                    line.difference(index, &input, &answer, &other);
                 }
             }
         }
-        for line in &mut lines {
-            line.compared = compared;
+        for line in lines {
+            line.compared += compared;
         }
-        lines
     };
-    thread::scope(|scope| {
-        let threads = [(); THREADS].map(|()| scope.spawn(work));
-        let mut lines = with.map(Line::new);
-        for thread in threads {
-            let parts = thread.join().expect("a comparing thread panicked");
-            for (line, part) in lines.iter_mut().zip(parts) {
-                line.add(part);
-            }
+    let empty = || with.map(Line::new);
+    let mut lines = empty();
+    for parts in in_threads(inputs.count, empty, work) {
+        for (line, part) in lines.iter_mut().zip(parts) {
+            line.add(part);
         }
-        lines.into()
-    })
+    }
+    lines.into()
 }

@@ -1,15 +1,25 @@
 //! Compares the library with the published Rust and reports where their answers differ.
 //!
 //! Every input is compared where a function has at most 2^32 of them; of the others the
-//! combinations of the ends of the argument types and a fixed pseudo-random sample.
+//! combinations of the ends of the argument types and a fixed pseudo-random sample. The search has
+//! a state, so it is compared in chains of calls.
 
+mod calls;
+mod cases;
+mod chains;
 mod compare;
 mod inputs;
+mod lists;
 mod operators;
 mod project;
 mod published;
+mod reader;
 mod record;
+mod search;
+mod speech;
 mod speed;
+mod subframes;
+mod words;
 
 // The published files name each other by `crate::codec`.
 use published::codec;
@@ -49,7 +59,10 @@ fn main() -> ExitCode {
 
 /// Compares the named functions, or all where none is named.
 fn compare_functions(names: &[&str]) -> Result<ExitCode, String> {
-    let functions = operators::functions();
+    let mut functions = operators::functions();
+    functions.extend(lists::functions());
+    functions.extend(reader::functions());
+    functions.extend(search::functions());
     for name in names {
         if !functions.iter().any(|function| function.name == *name) {
             let mut known: Vec<_> = functions.iter().map(|function| function.name).collect();

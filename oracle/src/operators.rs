@@ -10,45 +10,18 @@ use crate::{
         gain::{self, quantization},
         logarithm, lpc, pitch, postfilter, spectral,
     },
-    compare::{Line, compare},
+    compare::{Function, function},
     inputs::{Inputs, SAMPLE, every, sample},
     project::*,
     published,
 };
 use std::ops::RangeInclusive;
 
-/// A function, or a part of its inputs that has a comparison of its own.
-pub struct Function {
-    pub name: &'static str,
-    pub compare: fn() -> Vec<Line>,
-}
-
-/// `function!(NAME, INPUTS, |ARGUMENTS| OURS, { WITH => OTHER, .. })`
-macro_rules! function {
-    (
-        $name:literal,
-        $inputs:expr,
-        |$arguments:pat_param| $ours:expr,
-        { $($with:literal => $other:expr),+ $(,)? }
-    ) => {
-        Function {
-            name: $name,
-            compare: || {
-                compare(
-                    &$inputs,
-                    |$arguments| $ours,
-                    [$($with),+],
-                    |$arguments| [$($other),+],
-                )
-            },
-        }
-    };
-}
-
 pub fn functions() -> Vec<Function> {
     let mut functions = Vec::new();
     functions.extend(saturation());
     functions.extend(products());
+    functions.extend(high_products());
     functions.extend(words());
     functions.extend(shifts());
     functions.extend(division());
@@ -131,6 +104,24 @@ fn products() -> [Function; 6] {
             { "gain/quantization.rs" => quantization::multiply_word(a, b) }
         ),
     ]
+}
+
+fn high_products() -> [Function; 1] {
+    [function!(
+        "product_high",
+        high_inputs(),
+        |(a, b, n)| leaf_product_high(a, b, n),
+        { "pitch/search.rs product and shift" => published::product_high(a, b, n) }
+    )]
+}
+
+/// Each of the counts up to 17 with many words, then all counts at random: from 15 up every count
+/// gives the same answer.
+fn high_inputs() -> Inputs<impl Fn(u64) -> Option<(i16, i16, u32)> + Sync> {
+    sample(SAMPLE / 18)
+        .with_each(0..=17)
+        .map(|((a, b), n)| (a, b, n as u32))
+        .then(sample(SAMPLE / 2))
 }
 
 fn words() -> [Function; 9] {

@@ -28,8 +28,70 @@ pub struct Power {
     pub value: i32,
 }
 
-// These take and give numbers alone and are defined on all values of their types, so any call of
-// them is safe.
+/// A searcher or a lag reader: the whole lag before, its thirds, and the subframe expected next.
+#[repr(C)]
+#[derive(Debug, Clone, Copy, PartialEq, Eq)]
+pub struct PitchState {
+    pub samples: u16,
+    pub fraction: i16,
+    pub next: u8,
+}
+
+/// The number of the refusal, 0 where accepted, with its detail; the answer, 0 where refused; and
+/// the state after the call.
+#[repr(C)]
+#[derive(Debug, Clone, Copy, PartialEq, Eq)]
+pub struct PitchAnswer {
+    pub number: u8,
+    pub magnitude: u64,
+    pub index: u8,
+    pub samples: u16,
+    pub fraction: i16,
+    pub previous_samples: u16,
+    pub previous_fraction: i16,
+    pub next: u8,
+}
+
+/// A `PitchAnswer` without the state.
+#[derive(Debug, Clone, Copy, PartialEq, Eq)]
+pub struct Answer {
+    pub number: u8,
+    pub magnitude: u64,
+    pub index: u8,
+    pub samples: u16,
+    pub fraction: i16,
+}
+
+impl PitchAnswer {
+    pub fn answer(&self) -> Answer {
+        Answer {
+            number: self.number,
+            magnitude: self.magnitude,
+            index: self.index,
+            samples: self.samples,
+            fraction: self.fraction,
+        }
+    }
+
+    pub fn state(&self) -> PitchState {
+        PitchState {
+            samples: self.previous_samples,
+            fraction: self.previous_fraction,
+            next: self.next,
+        }
+    }
+}
+
+/// The number of the refusal, 0 where accepted, with the wrong length.
+#[repr(C)]
+#[derive(Debug, Clone, Copy, PartialEq, Eq)]
+pub struct LengthAnswer {
+    pub number: u8,
+    pub magnitude: u64,
+}
+
+// These take and give numbers alone, or borrow lists of a fixed length, and are defined on all
+// values of their types, so any call of them is safe.
 unsafe extern "C" {
     pub safe fn leaf_clip16(value: i32) -> i16;
     pub safe fn leaf_clip32(value: i64) -> i32;
@@ -60,7 +122,75 @@ unsafe extern "C" {
     pub safe fn leaf_divide(numerator: i16, denominator: i16) -> i16;
     pub safe fn leaf_interpolated(from: u16, to: u16, mantissa: u32) -> u32;
     pub safe fn leaf_inverse_sqrt(value: i32) -> i32;
+    pub safe fn leaf_product_high(left: i16, right: i16, count: u32) -> i16;
+    pub safe fn leaf_energy40(words: &[i16; 40]) -> i32;
+    pub safe fn leaf_dot40(left: &[i16; 40], right: &[i16; 40]) -> i32;
 
     pub safe fn mr74_log2(value: i32) -> Logarithm;
     pub safe fn mr74_pow2(exponent: u8, fraction_q15: u16) -> Power;
+    pub safe fn mr74_fresh_pitch() -> PitchState;
+    pub safe fn mr74_read_lag(state: PitchState, subframe: u8, index: u8) -> PitchAnswer;
+}
+
+// A list is lent as its first word and its length.
+unsafe extern "C" {
+    fn mr74_convolve(
+        input: *const i16,
+        input_length: usize,
+        impulse_q12: *const i16,
+        impulse_length: usize,
+        output: *mut i16,
+        output_length: usize,
+    ) -> LengthAnswer;
+    fn mr74_pitch_search(
+        state: PitchState,
+        excitation: *const i16,
+        excitation_length: usize,
+        target: *const i16,
+        target_length: usize,
+        impulse_q12: *const i16,
+        impulse_length: usize,
+        first: u16,
+        second: u16,
+        subframe: u8,
+    ) -> PitchAnswer;
+}
+
+pub fn convolve(input: &[i16], impulse_q12: &[i16], output: &mut [i16]) -> LengthAnswer {
+    // SAFETY: each pointer is that of a list with the length beside it, borrowed for the call.
+    unsafe {
+        mr74_convolve(
+            input.as_ptr(),
+            input.len(),
+            impulse_q12.as_ptr(),
+            impulse_q12.len(),
+            output.as_mut_ptr(),
+            output.len(),
+        )
+    }
+}
+
+pub fn pitch_search(
+    state: PitchState,
+    excitation: &[i16],
+    target: &[i16],
+    impulse_q12: &[i16],
+    [first, second]: [u16; 2],
+    subframe: u8,
+) -> PitchAnswer {
+    // SAFETY: each pointer is that of a list with the length beside it, borrowed for the call.
+    unsafe {
+        mr74_pitch_search(
+            state,
+            excitation.as_ptr(),
+            excitation.len(),
+            target.as_ptr(),
+            target.len(),
+            impulse_q12.as_ptr(),
+            impulse_q12.len(),
+            first,
+            second,
+            subframe,
+        )
+    }
 }

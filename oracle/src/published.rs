@@ -1,10 +1,11 @@
 //! The oracle's side: the published Rust, as the build script compiles it, and the few answers
 //! that no function of it gives.
 
-// Declares `codec`, and `pitch_gain_ratio`, the division inside `pitch_gain`.
+// Declares `codec`, and as functions the division inside `pitch_gain`, `pitch_gain_ratio`, and the
+// sums inside `normalized_correlation`, `energy40` and `dot40`.
 include!(concat!(env!("OUT_DIR"), "/published.rs"));
 
-use codec::mr74::{codebook::search::product, logarithm};
+use codec::mr74::{codebook::search::product, logarithm, pitch};
 
 /// The number of the refusal that stands for the published `PowerDomainError`.
 pub const POWER_DOMAIN: u8 = 7;
@@ -50,6 +51,12 @@ pub fn divide(numerator: i16, denominator: i16) -> i16 {
     } else {
         ((i32::from(numerator) << 15) / i32::from(denominator)) as i16
     }
+}
+
+/// The search's own product and shift, the high word taken; its counts are at most 15.
+pub fn product_high(left: i16, right: i16, count: u32) -> i16 {
+    let product = pitch::search::product(left, right);
+    (pitch::search::shift(product, count.min(15)) >> 16) as i16
 }
 
 /// Interpolation between two entries of a table, written here in 64 bits: the published functions

@@ -1,17 +1,30 @@
 //! The time of a call, as a ratio to the published Rust in the same run.
 
 use crate::{
-    codec::mr74::{energy::inverse_sqrt, gain::quantization, logarithm, pitch},
+    codec::mr74::{
+        energy::inverse_sqrt,
+        gain::quantization,
+        logarithm,
+        pitch::{
+            self,
+            search::{OpenLoopLag, Search, SearchedPitch},
+        },
+    },
     inputs::{Argument, Random},
     project::*,
     published,
+    speech::Speech,
+    subframes::{number, state},
+    words::{EXCITATION, SUBFRAME, uniform},
 };
 use std::{hint::black_box, time::Instant};
 
 const INPUTS: usize = 1 << 16;
+/// Inputs of a function on lists, few enough to stay in the machine's nearest memory.
+const LISTS: usize = 1 << 8;
 const ROUNDS: usize = 100;
 
-/// Both sides are called through pointers, so neither is compiled into the loop.
+/// The ratio on random inputs that are admitted.
 fn ratio<I: Argument, A, B>(
     name: &str,
     admits: fn(I) -> bool,
@@ -26,11 +39,16 @@ fn ratio<I: Argument, A, B>(
             inputs.push(input);
         }
     }
+    measure(name, &inputs, ours, other);
+}
+
+/// Both sides are called through pointers, so neither is compiled into the loop.
+fn measure<I: Copy, A, B>(name: &str, inputs: &[I], ours: fn(I) -> A, other: fn(I) -> B) {
     // The rounds of the two sides alternate, so that both see the same machine.
     let mut best = [f64::MAX; 2];
     for _ in 0..ROUNDS {
-        best[0] = best[0].min(round(&inputs, black_box(ours)));
-        best[1] = best[1].min(round(&inputs, black_box(other)));
+        best[0] = best[0].min(round(inputs, black_box(ours)));
+        best[1] = best[1].min(round(inputs, black_box(other)));
     }
     let [library, rust] = best;
     println!(
@@ -49,6 +67,13 @@ fn round<I: Copy, A>(inputs: &[I], function: fn(I) -> A) -> f64 {
 }
 
 pub fn report() {
+    report_operators();
+    for (kind, loud) in [("quiet speech", false), ("loud words", true)] {
+        report_lists(kind, loud);
+    }
+}
+
+fn report_operators() {
     ratio::<(i16, i16), _, _>(
         "product",
         |_| true,
@@ -98,4 +123,102 @@ pub fn report() {
         |(e, f)| mr74_pow2(e, f),
         |(e, f)| logarithm::pow2(e, f),
     );
+}
+
+/// A call of the search that is accepted, for both sides.
+struct Call {
+    before: Search,
+    state: PitchState,
+    excitation: [i16; EXCITATION],
+    target: [i16; SUBFRAME],
+    impulse: [i16; SUBFRAME],
+    open_loop: [OpenLoopLag; 2],
+    lags: [u16; 2],
+}
+
+/// A chain of calls. Of loud words, the excitation and the target are uniform.
+fn calls(loud: bool) -> Vec<Call> {
+    const BITS: u32 = 9;
+    let random = &mut Random::at(0);
+    let mut speech = Speech::new(random, BITS);
+    let mut search = Search::default();
+    let mut calls = Vec::new();
+    while calls.len() < 2 * LISTS {
+        speech.advance(random);
+        let lags = [speech.open_loop(random), speech.open_loop(random)];
+        let call = Call {
+            before: search.clone(),
+            state: state(&search),
+            excitation: if loud {
+                uniform(random)
+            } else {
+                speech.excitation
+            },
+            target: if loud {
+                uniform(random)
+            } else {
+                speech.target()
+            },
+            impulse: speech.impulse,
+            open_loop: lags.map(|lag| OpenLoopLag::try_new(lag).expect("a lag within limits")),
+            lags,
+        };
+        (_, search) = published_search(&call);
+        calls.push(call);
+    }
+    calls
+}
+
+fn report_lists(kind: &str, loud: bool) {
+    let calls = calls(loud);
+    let (absolute, relative): (Vec<_>, Vec<_>) =
+        calls.iter().partition(|call| call.before.next.absolute());
+    measure(
+        &format!("convolve ({kind})"),
+        &absolute,
+        library_convolve,
+        published_convolve,
+    );
+    for (name, calls) in [("absolute", absolute), ("relative", relative)] {
+        let name = format!("search ({name} subframe, {kind})");
+        measure(&name, &calls, library_search, published_search);
+    }
+}
+
+#[inline(never)]
+fn library_convolve(call: &Call) -> (LengthAnswer, [i16; SUBFRAME]) {
+    let mut output = [0; SUBFRAME];
+    let answer = convolve(&call.target, &call.impulse, &mut output);
+    (answer, output)
+}
+
+#[inline(never)]
+fn published_convolve(call: &Call) -> [i16; SUBFRAME] {
+    pitch::search::convolve(&call.target, &call.impulse)
+}
+
+#[inline(never)]
+fn library_search(call: &Call) -> PitchAnswer {
+    pitch_search(
+        call.state,
+        &call.excitation,
+        &call.target,
+        &call.impulse,
+        call.lags,
+        number(call.before.next),
+    )
+}
+
+/// The answer, and the search after it.
+#[inline(never)]
+fn published_search(call: &Call) -> (SearchedPitch, Search) {
+    let mut search = call.before.clone();
+    let answer = search.search(
+        &call.excitation,
+        &call.target,
+        &call.impulse,
+        call.open_loop,
+        call.before.next,
+    );
+    (answer.expect("a call in order"), search)
 }

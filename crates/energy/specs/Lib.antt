@@ -1,2 +1,3 @@
 -- What the contracts of `energy` cite.
 pub mod Root
+pub mod Opens

@@ -2,7 +2,7 @@
 ghost use mathlib.Core.Path.{_≡_};
 ghost use Prim.Native.Nat.{_<_, _^_};
 ghost use lib.IntN.{pos};
-ghost use Rattle.energy.specs.Root.{halved, root-in, Inv-sqrt-in, Inv-sqrt};
+ghost use Rattle.energy.specs.Root.{inverses, halved, root-in, Inv-sqrt-in, Inv-sqrt};
 
 const INVERSE_TABLE: [u16; 49] = [
     32767,
@@ -61,6 +61,12 @@ pub fn inverse_sqrt(value: i32) -> i32
 {
     let table = INVERSE_TABLE;
     inverse_sqrt_in(value, &table)
+}
+
+pub fn inverse_table() -> [u16; 49]
+    ensures { λ r. ⌜ r ≡ inverses ⌝ }
+{
+    INVERSE_TABLE
 }
 
 // The same with the table lent, for a caller that takes many roots: a `const` is laid out anew at each place that reads it.

@@ -6,3 +6,7 @@ pub mod Shifts
 pub mod Norms
 pub mod Lines
 pub mod Tables
+pub mod Lists
+pub mod Sums
+pub mod Products
+pub mod LowBits

@@ -2,4 +2,5 @@
 pub mod Clip
 pub mod Operators
 pub mod Line
+pub mod Lists
 pub mod Opens

@@ -1,12 +1,13 @@
 // Words (i16) and longs (i32) in fixed point: TS 26.073's basic operators as small functions that take every value.
 // The Rust repeats them in every file; here they have one home. Each is equated with a number of the integers (specs/Operators.antt).
 ghost use mathlib.Core.Path.{_≡_};
-ghost use Prim.Native.Nat.{_<_, _^_, min};
-ghost use lib.IntN.{pos, natAbs};
+ghost use Prim.Native.Nat.{_<_, _≤_, _*_, _^_, min};
+ghost use lib.IntN.{pos, natAbs, _*ℤ_};
 ghost use lib.Signed.{mag, shrZ};
 ghost use Rattle.fixed.specs.Clip.{clip};
 ghost use Rattle.fixed.specs.Operators.{add, sub, negate, abs-s, L-add, L-sub, L-negate, L-abs, L-mult, L-mac, L-msu, mult, extract-h, round, extract-l, L-deposit-h, low-half, L-Extract, Mpy-32, Mpy-32-16, L-shl, shl, even-bits, norm-l, div-s};
 ghost use Rattle.fixed.specs.Line.{line};
+ghost use Rattle.fixed.specs.Lists.{dot};
 
 // ---- Clipping: the only two functions that test for a type's ends.
 
@@ -122,6 +123,13 @@ pub fn fractional(a: i16, b: i16) -> i16
     ensures { λ r. ⌜ r ≡ mult a b ⌝ }
 {
     clip16((a as i32 * b as i32) >> 15)
+}
+
+// The high word of the doubled product shifted to the left by n places, n held at 15: one product, one shift, one clip.
+pub fn product_high(a: i16, b: i16, n: u32) -> i16
+    ensures { λ r. ⌜ r ≡ extract-h (L-shl (L-mult a b) (pos (min n 15))) ⌝ }
+{
+    clip16((a as i32 * b as i32) >> (15 - at_most(n, 15)))
 }
 
 // ---- The words of a long.
@@ -299,4 +307,42 @@ pub fn interpolated(from: u16, to: u16, m: u32) -> u32
 {
     let way = m / 1024 % 32768;
     2 * (from as u32 * (32768 - way) + to as u32 * way)
+}
+
+// ---- Sums over 40 words, a subframe.
+
+// Terms are not negative, so the sum is clipped once.
+pub fn energy40(x: &[i16; 40]) -> i32
+    ensures { λ r. ⌜ r ≡ dot (now (x .entry)) (now (x .entry)) 40 ⌝ }
+{
+    let mut sum: u64 = 0;
+    for i in 0..40 {
+        sum = sum + square(x[i]) as u64;
+    }
+    if 1073741823 < sum {
+        return 2147483647;
+    }
+    (2 * sum) as i32
+}
+
+fn square(v: i16) -> u32
+    ensures { λ r. ⌜ (r ≡ natAbs v * natAbs v) × (r ≤ 2 ^ 30) ⌝ }
+{
+    exact(v, v) as u32
+}
+
+fn exact(a: i16, b: i16) -> i32
+    ensures { λ r. ⌜ r ≡ a *ℤ b ⌝ }
+{
+    a as i32 * b as i32
+}
+
+pub fn dot40(x: &[i16; 40], y: &[i16; 40]) -> i32
+    ensures { λ r. ⌜ r ≡ dot (now (x .entry)) (now (y .entry)) 40 ⌝ }
+{
+    let mut sum: i32 = 0;
+    for i in 0..40 {
+        sum = mac(sum, x[i], y[i]);
+    }
+    sum
 }

@@ -3,7 +3,7 @@ use mathlib.Core.Bool.{cond}
 use mathlib.Core.List.{List, [], _∷_}
 use Prim.Native.Nat.{ℕ, zero, suc, _+_, _-_, _*_, _/_, _%_, _^_}
 use lib.Dec.{ltb}
-use lib.IntN.{pos}
+use lib.IntN.{ℤ, pos}
 use Rattle.fixed.specs.Line.{table-line}
 use Rattle.refusal.specs.Refused.{Told, values, refused, turned-down}
 use Rattle.logarithm.specs.declared.Power.{Power}
@@ -23,12 +23,12 @@ unfoldable pub power : ℕ → ℕ → ℕ
 power exponent fraction = shr-r (table-line pow2-table 0 (fraction * 32768)) (30 - exponent)
 
 -- an answer as 01 gives it
-abbrev pub told : Power → Told
-told (Value v) = values (v ∷ [])
+abbrev pub told : Power → Told ℤ
+told (Value v) = values v
 told (Refused r) = turned-down r
 
 -- 01, number 7: the exponent if bad, else the fraction
-unfoldable pub Pow2 : ℕ → ℕ → Told
+unfoldable pub Pow2 : ℕ → ℕ → Told ℤ
 Pow2 exponent fraction =
     cond (ltb 30 exponent) (refused 7 (pos exponent))
-    (cond (ltb 32767 fraction) (refused 7 (pos fraction)) (values (pos (power exponent fraction) ∷ [])))
+    (cond (ltb 32767 fraction) (refused 7 (pos fraction)) (values (pos (power exponent fraction))))

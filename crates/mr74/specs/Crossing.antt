@@ -1,12 +1,10 @@
 -- An answer as the struct that crosses to Rust and C: number 0 and the values, or a refusal's number and detail and zeros for the values.
 use mathlib.Core.Bool.{false}
-use mathlib.Core.List.{[], _∷_}
-use lib.IntN.{pos}
+use lib.IntN.{ℤ, pos}
 use Rattle.refusal.specs.Refused.{Told, values, refused, sign-magnitude}
 use Rattle.mr74.specs.declared.PowerAnswer.{PowerAnswer}
 
--- `pow2`'s answer has one value
-unfoldable pub power-answer : Told → PowerAnswer
-power-answer (values []) = record { number = 0; negative = false; magnitude = 0; value = pos 0 }
-power-answer (values (v ∷ vs)) = record { number = 0; negative = false; magnitude = 0; value = v }
+-- `pow2`'s answer
+unfoldable pub power-answer : Told ℤ → PowerAnswer
+power-answer (values v) = record { number = 0; negative = false; magnitude = 0; value = v }
 power-answer (refused n d) = record { number = n; negative = sign-magnitude d .negative; magnitude = sign-magnitude d .magnitude; value = pos 0 }

@@ -1,2 +1,3 @@
 -- What the contracts of `mr74` cite.
 pub mod Crossing
+pub mod Pitches

@@ -1,10 +1,24 @@
 // The entries of 01 for Rust and C. An enum can't cross, so an answer is a struct: `number` is 0 where the entry accepted, else the refusal's number.
 use logarithm::Logarithm;
 use logarithm::Power;
+use pitch::Fraction;
+use pitch::PitchLag;
+use pitch::Reader;
+use pitch::Reading;
+use pitch::Subframe;
+use pitch_search::Convolution;
+use pitch_search::Found;
+use pitch_search::Search;
+use refusal::Refusal;
 ghost use mathlib.Core.Path.{_≡_};
 ghost use Rattle.logarithm.specs.Logarithms.{Log2};
 ghost use Rattle.logarithm.specs.Powers.{Pow2};
+ghost use Rattle.refusal.specs.Refused.{number, detail};
+ghost use Rattle.pitch.specs.Readers.{read};
+ghost use Rattle.pitch_search.specs.Filters.{convolve};
+ghost use Rattle.pitch_search.specs.Searches.{Pitch-fr};
 ghost use Rattle.mr74.specs.Crossing.{power-answer};
+ghost use Rattle.mr74.specs.Pitches.{fraction-of, subframe-of, lag-of-state, searcher-of, reader-of, fresh-state, accepted-pitch, refused-pitch, pitch-answer, reading-answer, length-answer};
 
 #[repr(C)]
 pub struct PowerAnswer {
@@ -41,5 +55,184 @@ pub extern "C" fn mr74_pow2(exponent: u8, fraction_q15: u16) -> PowerAnswer
                 value: 0,
             }
         }
+    }
+}
+
+// ---- The closed loop. A searcher or a lag reader crosses as numbers: the previous whole lag, its fraction in thirds, the subframe expected next.
+
+#[repr(C)]
+pub struct PitchState {
+    pub samples: u16,
+    pub fraction: i16,
+    pub next: u8,
+}
+
+// The answer, and the state after it.
+#[repr(C)]
+pub struct PitchAnswer {
+    pub number: u8,
+    pub magnitude: u64,
+    pub index: u8,
+    pub samples: u16,
+    pub fraction: i16,
+    pub previous_samples: u16,
+    pub previous_fraction: i16,
+    pub next: u8,
+}
+
+#[repr(C)]
+pub struct LengthAnswer {
+    pub number: u8,
+    pub magnitude: u64,
+}
+
+#[no_mangle]
+pub extern "C" fn mr74_fresh_pitch() -> PitchState
+    ensures { λ r. ⌜ r ≡ fresh-state ⌝ }
+{
+    PitchState {
+        samples: 40,
+        fraction: 0,
+        next: 1,
+    }
+}
+
+#[no_mangle]
+pub extern "C" fn mr74_pitch_search(
+    state: PitchState,
+    excitation: &[i16],
+    target: &[i16],
+    impulse_q12: &[i16],
+    first: u16,
+    second: u16,
+    subframe: u8,
+) -> PitchAnswer
+    ensures { λ r. ⌜ r ≡ pitch-answer (Pitch-fr (searcher-of state) (now (excitation .entry)) (now (target .entry)) (now («impulse_q12» .entry)) first second subframe) ⌝ }
+{
+    let searcher = Search {
+        previous: lag(state),
+        next: subframe_of(state.next),
+    };
+    let step = searcher.search(excitation, target, impulse_q12, first, second, subframe);
+    let found = step.found;
+    let after = step.searcher;
+    let previous = after.previous;
+    let next = after.next;
+    match found {
+        Found::Pitch(pitch) => {
+            let lag = pitch.lag;
+            accepted(pitch.index, lag, previous, next)
+        }
+        Found::Refused(refusal) => refused(refusal, previous, next),
+    }
+}
+
+#[no_mangle]
+pub extern "C" fn mr74_read_lag(state: PitchState, subframe: u8, index: u8) -> PitchAnswer
+    ensures { λ r. ⌜ r ≡ reading-answer (read (reader-of state) subframe index) ⌝ }
+{
+    let reader = Reader {
+        previous: lag(state),
+        next: subframe_of(state.next),
+    };
+    let step = reader.read(subframe, index);
+    let reading = step.reading;
+    let after = step.reader;
+    let previous = after.previous;
+    let next = after.next;
+    match reading {
+        Reading::Lag(lag) => accepted(0, lag, previous, next),
+        Reading::Refused(refusal) => refused(refusal, previous, next),
+    }
+}
+
+#[no_mangle]
+pub extern "C" fn mr74_convolve(
+    input: &[i16],
+    impulse_q12: &[i16],
+    output: &mut [i16],
+) -> LengthAnswer
+    ensures { λ r. ⌜ (r ≡ length-answer (convolve (now (input .entry)) (now («impulse_q12» .entry)) (now (output .entry)) .answer))
+        × (now (output .exit) ≡ convolve (now (input .entry)) (now («impulse_q12» .entry)) (now (output .entry)) .after) ⌝ }
+{
+    match pitch_search::convolve(input, impulse_q12, output) {
+        Convolution::Written => LengthAnswer {
+            number: 0,
+            magnitude: 0,
+        },
+        Convolution::Refused(refusal) => {
+            let detail = refusal.detail();
+            LengthAnswer {
+                number: refusal.number(),
+                magnitude: detail.magnitude,
+            }
+        }
+    }
+}
+
+// A number that is no third is read by its sign, a number that is no subframe as 4.
+fn lag(state: PitchState) -> PitchLag
+    ensures { λ r. ⌜ r ≡ lag-of-state state ⌝ }
+{
+    PitchLag {
+        samples: state.samples,
+        fraction: fraction_of(state.fraction),
+    }
+}
+
+fn fraction_of(thirds: i16) -> Fraction
+    ensures { λ r. ⌜ r ≡ fraction-of thirds ⌝ }
+{
+    if thirds < 0 {
+        return Fraction::MinusThird;
+    }
+    if 0 < thirds {
+        return Fraction::PlusThird;
+    }
+    Fraction::Zero
+}
+
+fn subframe_of(number: u8) -> Subframe
+    ensures { λ r. ⌜ r ≡ subframe-of number ⌝ }
+{
+    match number {
+        1 => Subframe::One,
+        2 => Subframe::Two,
+        3 => Subframe::Three,
+        _ => Subframe::Four,
+    }
+}
+
+fn accepted(index: u8, lag: PitchLag, previous: PitchLag, next: Subframe) -> PitchAnswer
+    ensures { λ r. ⌜ r ≡ accepted-pitch index lag previous next ⌝ }
+{
+    let fraction = lag.fraction;
+    let previous_fraction = previous.fraction;
+    PitchAnswer {
+        number: 0,
+        magnitude: 0,
+        index,
+        samples: lag.samples,
+        fraction: fraction.thirds(),
+        previous_samples: previous.samples,
+        previous_fraction: previous_fraction.thirds(),
+        next: next.number(),
+    }
+}
+
+fn refused(refusal: Refusal, previous: PitchLag, next: Subframe) -> PitchAnswer
+    ensures { λ r. ⌜ r ≡ refused-pitch (number refusal) (detail refusal) previous next ⌝ }
+{
+    let previous_fraction = previous.fraction;
+    let detail = refusal.detail();
+    PitchAnswer {
+        number: refusal.number(),
+        magnitude: detail.magnitude,
+        index: 0,
+        samples: 0,
+        fraction: 0,
+        previous_samples: previous.samples,
+        previous_fraction: previous_fraction.thirds(),
+        next: next.number(),
     }
 }

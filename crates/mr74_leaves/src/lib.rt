@@ -1,10 +1,12 @@
 // The operators of `fixed` and the inverse root under plain names, for the oracle alone.
 use fixed::Halves;
 ghost use mathlib.Core.Path.{_≡_};
+ghost use Prim.Native.Nat.{min};
 ghost use lib.IntN.{pos, natAbs};
 ghost use Rattle.fixed.specs.Clip.{clip};
 ghost use Rattle.fixed.specs.Operators.{add, sub, negate, abs-s, L-add, L-sub, L-negate, L-abs, L-mult, L-mac, L-msu, mult, extract-h, round, extract-l, L-deposit-h, L-Extract, Mpy-32, Mpy-32-16, L-shl, shl, even-bits, norm-l, div-s};
 ghost use Rattle.fixed.specs.Line.{line};
+ghost use Rattle.fixed.specs.Lists.{dot};
 ghost use Rattle.energy.specs.Root.{Inv-sqrt};
 
 #[no_mangle]
@@ -208,4 +210,25 @@ pub extern "C" fn leaf_inverse_sqrt(value: i32) -> i32
     ensures { λ r. ⌜ r ≡ Inv-sqrt value ⌝ }
 {
     energy::inverse_sqrt(value)
+}
+
+#[no_mangle]
+pub extern "C" fn leaf_product_high(a: i16, b: i16, n: u32) -> i16
+    ensures { λ r. ⌜ r ≡ extract-h (L-shl (L-mult a b) (pos (min n 15))) ⌝ }
+{
+    fixed::product_high(a, b, n)
+}
+
+#[no_mangle]
+pub extern "C" fn leaf_energy40(x: &[i16; 40]) -> i32
+    ensures { λ r. ⌜ r ≡ dot (now (x .entry)) (now (x .entry)) 40 ⌝ }
+{
+    fixed::energy40(x)
+}
+
+#[no_mangle]
+pub extern "C" fn leaf_dot40(x: &[i16; 40], y: &[i16; 40]) -> i32
+    ensures { λ r. ⌜ r ≡ dot (now (x .entry)) (now (y .entry)) 40 ⌝ }
+{
+    fixed::dot40(x, y)
 }

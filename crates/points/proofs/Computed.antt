@@ -5,6 +5,7 @@ use Prim.Native.Nat.{ℕ}
 use lib.ListN.{getD}
 use Rattle.refusal.specs.Refused.{values}
 use Rattle.logarithm.specs.Opens.{logarithm-opens}
+use Rattle.pitch_search.specs.Opens.{search-opens}
 use Rattle.points.specs.Answer.{powerOfTwo, answer}
 use Rattle.points.specs.Table.{Point, Holds, points, Points}
 
@@ -15,6 +16,38 @@ pow2-14 : Holds (point 0)
 unfolding points answer logarithm-opens
 pow2-14 = refl
 
+index-of-85 : Holds (point 1)
+unfolding points answer
+index-of-85 = refl
+
+index-0 : Holds (point 2)
+unfolding points answer
+index-0 = refl
+
+index-196 : Holds (point 3)
+unfolding points answer
+index-196 = refl
+
+index-255 : Holds (point 4)
+unfolding points answer
+index-255 = refl
+
+after-144 : Holds (point 5)
+unfolding points answer
+after-144 = refl
+
+after-20 : Holds (point 6)
+unfolding points answer
+after-20 = refl
+
+line-3 : Holds (point 7)
+unfolding points answer search-opens
+line-3 = refl
+
+line-4 : Holds (point 8)
+unfolding points answer search-opens
+line-4 = refl
+
 pub computed : Points
 unfolding Points
-computed = (pow2-14, tt)
+computed = (pow2-14, (index-of-85, (index-0, (index-196, (index-255, (after-144, (after-20, (line-3, (line-4, tt)))))))))

@@ -1,17 +1,37 @@
 -- 01, 'Bench points': each point marked M is a row.
 use mathlib.Core.Path.{_≡_}
 use mathlib.Core.List.{List, [], _∷_}
-use lib.IntN.{pos}
+use Prim.Native.Nat.{ℕ}
+use lib.IntN.{ℤ, pos, negsuc}
+use lib.ListN.{replicate}
 use Rattle.refusal.specs.Refused.{Told, values}
-use Rattle.points.specs.Answer.{Question, powerOfTwo, answer}
+use Rattle.pitch.specs.declared.Fraction.the-variants.{Zero}
+use Rattle.points.specs.Answer.{Question, powerOfTwo, absoluteReading, relativeReading, absoluteIndex, pitchAfter, answer}
 
 -- a question and what 01 says of it
 pub record Point : Type 0 where
   pub asked : Question
-  pub told : Told
+  pub told : Told (List ℤ)
+
+-- '2 pitch' with all samples 0 and the open-loop lags 80, 80, after such searches of other subframes
+abbrev pub silent-pitch : List ℕ → ℕ → Question
+silent-pitch ns n = pitchAfter ns (replicate 194 (pos 0)) (replicate 40 (pos 0)) (replicate 40 (pos 0)) 80 80 n
 
 unfoldable pub points : List Point
-points = record { asked = powerOfTwo 14 0; told = values (pos 16384 ∷ []) } ∷ []
+points =
+    record { asked = powerOfTwo 14 0; told = values (pos 16384 ∷ []) }
+    -- 'absolute 85 and 0 gives 197. Index 0 reads 19 and +1; 196 reads 85 and −1; 255 reads 143 and 0'
+    ∷ record { asked = absoluteIndex (record { samples = 85; fraction = Zero }); told = values (pos 197 ∷ []) }
+    ∷ record { asked = absoluteReading 0; told = values (pos 19 ∷ pos 1 ∷ []) }
+    ∷ record { asked = absoluteReading 196; told = values (pos 85 ∷ negsuc 0 ∷ []) }
+    ∷ record { asked = absoluteReading 255; told = values (pos 143 ∷ pos 0 ∷ []) }
+    -- 'previous 144, index 31: 144 and −1. Previous 20, index 0: 19 and +1'
+    ∷ record { asked = relativeReading 144 31; told = values (pos 144 ∷ negsuc 0 ∷ []) }
+    ∷ record { asked = relativeReading 20 0; told = values (pos 19 ∷ pos 1 ∷ []) }
+    -- lines 3 and 4 of the listing
+    ∷ record { asked = silent-pitch [] 1; told = values (pos 189 ∷ pos 82 ∷ pos 1 ∷ []) }
+    ∷ record { asked = silent-pitch (1 ∷ []) 2; told = values (pos 27 ∷ pos 85 ∷ pos 1 ∷ []) }
+    ∷ []
 
 -- the definition answers so
 abbrev pub Holds : Point → Type 0

@@ -1,6 +1,5 @@
 -- 01, 'What is turned down': the number and the detail of each case. Every contract that speaks of a refusal speaks through these.
 use mathlib.Core.Bool.{true, false}
-use mathlib.Core.List.{List}
 use Prim.Native.Nat.{ℕ, suc}
 use lib.IntN.{ℤ, pos, negsuc}
 use Rattle.refusal.specs.declared.Refusal.{Refusal}
@@ -44,11 +43,16 @@ abbrev pub sign-magnitude : ℤ → Detail
 sign-magnitude (pos n) = record { negative = false; magnitude = n }
 sign-magnitude (negsuc n) = record { negative = true; magnitude = suc n }
 
--- what an entry answers, as 01 gives it: its values in the order in which they are printed, or a number and a detail
-pub data Told : Type 0 where
-  values : List ℤ → Told
-  refused : ℕ → ℤ → Told
+-- what an entry answers, as 01 gives it: its values, or a number and a detail
+pub data Told (A : Type 0) : Type 0 where
+  values : A → Told A
+  refused : ℕ → ℤ → Told A
 
 -- a refusal so told
-abbrev pub turned-down : Refusal → Told
+abbrev pub turned-down : {A : Type 0} → Refusal → Told A
 turned-down r = refused (number r) (detail r)
+
+-- the same answer with its values put another way
+abbrev pub put : {A B : Type 0} → (A → B) → Told A → Told B
+put f (values a) = values (f a)
+put f (refused n d) = refused n d

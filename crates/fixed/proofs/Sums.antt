@@ -1,0 +1,29 @@
+-- Sums whose terms are not negative: one clip at the end does.
+use mathlib.Core.Path.{_≡_, refl, ap}
+use mathlib.Core.List.{List}
+use Prim.Native.Nat.{ℕ, zero, suc, _+_, _*_, _^_, _≤_, min}
+use native.Mathlib.Nat.{mul-le-mul}
+use native.Mathlib.Omega.{arith}
+use lib.IntN.{ℤ, pos, negsuc, natAbs, _*ℤ_}
+use mir.Syntax.{w16}
+use mir.Val.{SFits}
+use Rattle.fixed.specs.Operators.{L-add, L-mult}
+use Rattle.fixed.specs.Lists.{at, L-sum, dot}
+use Rattle.fixed.proofs.Bounds.{abs-fits}
+
+-- the squares of the first n places
+unfoldable pub squares : List ℤ → ℕ → ℕ
+squares xs zero = 0
+squares xs (suc n) = squares xs n + natAbs (at xs n) * natAbs (at xs n)
+
+pub square-is : (v : ℤ) → v *ℤ v ≡ pos (natAbs v * natAbs v)
+square-is (pos n) = refl
+square-is (negsuc n) = refl
+
+pub square-le : (v : ℤ) → SFits w16 v → natAbs v * natAbs v ≤ 2 ^ 30
+square-le v f = mul-le-mul (abs-fits f) (abs-fits f)
+
+pub energy-is : (xs : List ℤ) (n : ℕ) → dot xs xs n ≡ pos (min (2 * squares xs n) 2147483647)
+unfolding dot L-sum squares L-add L-mult
+energy-is xs zero = ap pos (omega arith)
+energy-is xs (suc n) = rw (energy-is xs n, square-is (at xs n)) (ap pos (omega arith))

@@ -1,0 +1,48 @@
+-- The lag reader of 01.
+use mathlib.Core.Bool.{cond, _||_}
+use mathlib.Core.List.{[], _∷_}
+use Prim.Native.Nat.{ℕ}
+use lib.Dec.{leb}
+use lib.IntN.{pos}
+use Rattle.refusal.specs.Refused.{Told, values, turned-down}
+use Rattle.refusal.specs.Checks.{Check, Outcome, unless-refused, in-order}
+use Rattle.refusal.specs.Checks as checks
+use Rattle.pitch.specs.declared.Fraction.the-variants.{Zero}
+use Rattle.pitch.specs.declared.Subframe.{Subframe}
+use Rattle.pitch.specs.declared.Subframe.the-variants.{One}
+use Rattle.pitch.specs.declared.PitchLag.{PitchLag}
+use Rattle.pitch.specs.declared.Reader.{Reader}
+use Rattle.pitch.specs.declared.Reading.{Reading}
+use Rattle.pitch.specs.declared.Reading.the-variants.{Lag, Refused}
+use Rattle.pitch.specs.Kinds.{subframe-number, absolute, following}
+use Rattle.pitch.specs.Windows.{relative-start, handset}
+use Rattle.pitch.specs.Indexes.{absolute-lag, relative-lag}
+
+-- 'Fresh searcher and fresh reader: previous lag 40, expecting 1'
+abbrev pub fresh-lag : PitchLag
+fresh-lag = record { samples = 40; fraction = Zero }
+
+abbrev pub fresh-reader : Reader
+fresh-reader = record { previous = fresh-lag; next = One }
+
+-- an answer as 01 gives it
+abbrev pub told-reading : Reading → Told PitchLag
+told-reading (Lag l) = values l
+told-reading (Refused r) = turned-down r
+
+-- 01, number 5: a relative index is at most 31
+abbrev pub relative-index-fits : Subframe → ℕ → Check
+relative-index-fits s index = record { passes = absolute s || leb index 31; number = 5; detail = pos index }
+
+-- the lag of an index in a subframe after the lag `previous`
+abbrev pub lag-of : Subframe → ℕ → ℕ → PitchLag
+lag-of s previous index = cond (absolute s) (absolute-lag index) (relative-lag (relative-start handset previous) index)
+
+-- what a reading answers, and the reader after it
+unfoldable pub read : Reader → ℕ → ℕ → Outcome PitchLag Reader
+read r n index =
+    unless-refused (checks.subframe-number n ∷ in-order (subframe-number (r .next)) n ∷ relative-index-fits (r .next) index ∷ []) r
+    (record {
+      answer = values (lag-of (r .next) (r .previous .samples) index);
+      after = record { previous = lag-of (r .next) (r .previous .samples) index; next = following (r .next) };
+    })

@@ -1,0 +1,307 @@
+// Pitch lags, from pitch.rs: the kinds of lag, the search windows, the index rules in both directions, and the lag reader.
+use refusal::Refusal;
+ghost use mathlib.Core.Path.{_≡_};
+ghost use Rattle.refusal.specs.Refused.{values, turned-down};
+ghost use Rattle.pitch.specs.Kinds.{thirds, from-zero, subframe-number, absolute, following, told-lag, try-lag};
+ghost use Rattle.pitch.specs.Windows.{absolute-start, relative-start, handset};
+ghost use Rattle.pitch.specs.Indexes.{absolute-index, relative-index, fraction-at, absolute-lag, relative-lag};
+ghost use Rattle.pitch.specs.Readers.{fresh-lag, fresh-reader, told-reading, read};
+
+// Thirds of a sample.
+pub enum Fraction {
+    MinusThird,
+    Zero,
+    PlusThird,
+}
+
+impl Fraction {
+    pub fn thirds(self) -> i16
+        ensures { λ r. ⌜ r ≡ thirds self ⌝ }
+    {
+        match self {
+            Fraction::MinusThird => -1,
+            Fraction::Zero => 0,
+            Fraction::PlusThird => 1,
+        }
+    }
+
+    // The same counted from 0.
+    fn from_zero(self) -> u32
+        ensures { λ r. ⌜ r ≡ from-zero self ⌝ }
+    {
+        match self {
+            Fraction::MinusThird => 0,
+            Fraction::Zero => 1,
+            Fraction::PlusThird => 2,
+        }
+    }
+
+    fn at(index: u8) -> Self
+        ensures { λ r. ⌜ r ≡ fraction-at index ⌝ }
+    {
+        match index % 3 {
+            0 => Fraction::PlusThird,
+            1 => Fraction::MinusThird,
+            _ => Fraction::Zero,
+        }
+    }
+}
+
+pub enum Subframe {
+    One,
+    Two,
+    Three,
+    Four,
+}
+
+impl Subframe {
+    pub fn number(self) -> u8
+        ensures { λ r. ⌜ r ≡ subframe-number self ⌝ }
+    {
+        match self {
+            Subframe::One => 1,
+            Subframe::Two => 2,
+            Subframe::Three => 3,
+            Subframe::Four => 4,
+        }
+    }
+
+    // Subframes one and three send a lag by itself, two and four beside the lag before.
+    pub fn absolute(self) -> bool
+        ensures { λ r. ⌜ r ≡ absolute self ⌝ }
+    {
+        match self {
+            Subframe::One => true,
+            Subframe::Two => false,
+            Subframe::Three => true,
+            Subframe::Four => false,
+        }
+    }
+
+    pub fn next(self) -> Self
+        ensures { λ r. ⌜ r ≡ following self ⌝ }
+    {
+        match self {
+            Subframe::One => Subframe::Two,
+            Subframe::Two => Subframe::Three,
+            Subframe::Three => Subframe::Four,
+            Subframe::Four => Subframe::One,
+        }
+    }
+}
+
+// A lag that the open loop may answer: made by `try_new` alone.
+pub struct OpenLoopLag(u16);
+
+// What `try_new` answers.
+pub enum OpenLoop {
+    Lag(OpenLoopLag),
+    Refused(Refusal),
+}
+
+impl OpenLoopLag {
+    pub const MIN: u16 = 20;
+
+    pub const MAX: u16 = 143;
+
+    pub fn try_new(samples: u16) -> OpenLoop
+        ensures { λ r. ⌜ told-lag r ≡ try-lag samples ⌝ }
+    {
+        if samples < OpenLoopLag::MIN {
+            return OpenLoop::Refused(Refusal::OpenLoopLag(samples));
+        }
+        if OpenLoopLag::MAX < samples {
+            return OpenLoop::Refused(Refusal::OpenLoopLag(samples));
+        }
+        OpenLoop::Lag(OpenLoopLag(samples))
+    }
+
+    pub fn samples(self) -> u16
+        ensures { λ r. ⌜ r ≡ self .0 ⌝ }
+    {
+        self.0
+    }
+}
+
+// Whole samples and a fraction of one.
+pub struct PitchLag {
+    pub samples: u16,
+    pub fraction: Fraction,
+}
+
+impl PitchLag {
+    // TS 26.073 Dec_lag3, subframes one and three.
+    pub fn from_absolute(index: u8) -> Self
+        ensures { λ r. ⌜ r ≡ absolute-lag index ⌝ }
+    {
+        let wide = index as u16;
+        if wide < 197 {
+            let fraction = Fraction::at(index);
+            return PitchLag {
+                samples: (wide + 2) / 3 + 19,
+                fraction,
+            };
+        }
+        PitchLag {
+            samples: wide - 112,
+            fraction: Fraction::Zero,
+        }
+    }
+
+    // TS 26.073 Dec_lag3, subframes two and four.
+    pub fn from_relative(index: u8, previous: u16) -> Self
+        ensures { λ r. ⌜ r ≡ relative-lag (relative-start handset previous) index ⌝ }
+    {
+        let start = relative_start(previous);
+        let fraction = Fraction::at(index);
+        PitchLag {
+            samples: start + (index as u16 + 2) / 3 - 1,
+            fraction,
+        }
+    }
+
+    // TS 26.073 Enc_lag3, subframes one and three.
+    pub fn absolute_index(self) -> u32
+        ensures { λ r. ⌜ r ≡ absolute-index self ⌝ }
+    {
+        let samples = self.samples as u32;
+        if 85 < samples {
+            return samples + 112;
+        }
+        let fraction = self.fraction;
+        let place = 3 * samples + fraction.from_zero();
+        if place < 59 {
+            return 0;
+        }
+        place - 59
+    }
+
+    // TS 26.073 Enc_lag3, subframes two and four.
+    pub fn relative_index(self, start: u16) -> u32
+        ensures { λ r. ⌜ r ≡ relative-index start self ⌝ }
+    {
+        let fraction = self.fraction;
+        let place = 3 * self.samples as u32 + fraction.from_zero() + 1;
+        let origin = 3 * start as u32;
+        if place < origin {
+            return 0;
+        }
+        place - origin
+    }
+}
+
+// The first lag of a window of 7 round an open-loop lag, and of a window of 10 round the lag before.
+pub fn absolute_start(centre: u16) -> u16
+    ensures { λ r. ⌜ r ≡ absolute-start handset centre ⌝ }
+{
+    if centre < 23 {
+        return 20;
+    }
+    if 140 < centre {
+        return 137;
+    }
+    centre - 3
+}
+
+pub fn relative_start(previous: u16) -> u16
+    ensures { λ r. ⌜ r ≡ relative-start handset previous ⌝ }
+{
+    if previous < 25 {
+        return 20;
+    }
+    if 139 < previous {
+        return 134;
+    }
+    previous - 5
+}
+
+// The lag of a fresh searcher and of a fresh reader.
+pub fn fresh_lag() -> PitchLag
+    ensures { λ r. ⌜ r ≡ fresh-lag ⌝ }
+{
+    PitchLag {
+        samples: 40,
+        fraction: Fraction::Zero,
+    }
+}
+
+// The lag reader: the lag that it read last, and the subframe that it expects.
+pub struct Reader {
+    pub previous: PitchLag,
+    pub next: Subframe,
+}
+
+// What `read` answers.
+pub enum Reading {
+    Lag(PitchLag),
+    Refused(Refusal),
+}
+
+pub struct ReaderStep {
+    pub reading: Reading,
+    pub reader: Reader,
+}
+
+impl Reader {
+    pub fn fresh() -> Self
+        ensures { λ r. ⌜ r ≡ fresh-reader ⌝ }
+    {
+        let previous = fresh_lag();
+        Reader {
+            previous,
+            next: Subframe::One,
+        }
+    }
+
+    pub fn reset(self) -> Self
+        ensures { λ r. ⌜ r ≡ fresh-reader ⌝ }
+    {
+        Reader::fresh()
+    }
+
+    pub fn read(self, subframe: u8, index: u8) -> ReaderStep
+        ensures { λ r. ⌜ (told-reading (r .reading) ≡ read self subframe index .answer) × (r .reader ≡ read self subframe index .after) ⌝ }
+    {
+        if subframe < 1 {
+            return self.refused(Refusal::Subframe(subframe));
+        }
+        if 4 < subframe {
+            return self.refused(Refusal::Subframe(subframe));
+        }
+        let due = self.next;
+        if subframe != due.number() {
+            return self.refused(Refusal::Order(due.number()));
+        }
+        if due.absolute() {
+            return self.taken(PitchLag::from_absolute(index));
+        }
+        if 31 < index {
+            return self.refused(Refusal::RelativeIndex(index));
+        }
+        self.taken(PitchLag::from_relative(index, self.previous.samples))
+    }
+
+    fn refused(self, refusal: Refusal) -> ReaderStep
+        ensures { λ r. ⌜ (told-reading (r .reading) ≡ turned-down refusal) × (r .reader ≡ self) ⌝ }
+    {
+        ReaderStep {
+            reading: Reading::Refused(refusal),
+            reader: self,
+        }
+    }
+
+    fn taken(self, lag: PitchLag) -> ReaderStep
+        ensures { λ r. ⌜ (told-reading (r .reading) ≡ values lag) × (r .reader ≡ record { previous = lag; next = following (self .next) }) ⌝ }
+    {
+        let due = self.next;
+        let next = due.next();
+        let reader = Reader {
+            previous: lag,
+            next,
+        };
+        ReaderStep {
+            reading: Reading::Lag(lag),
+            reader,
+        }
+    }
+}

@@ -1,0 +1,67 @@
+use borrow.Author.Tests.{eq-eqb, ne-eqb}
+use lib.ListN.{length}
+use Rattle.pitch_search.specs.Filters.{convolve}
+use borrow.Author.Needs.{needs}
+use Rattle.pitch_search.proofs.convolve.Statement.{statement}
+use Rattle.pitch_search.proofs.convolve.Tie as tie
+
+returns : tie.Need-returns
+unfolding convolve
+returns c = let a = ne-eqb _ _ (c .if1 .taken) in (rw a, rw a)
+
+returns-2 : tie.Need-returns-2
+unfolding convolve
+returns-2 c =
+    let a = eq-eqb _ _ (c .before .if1 .left) in
+    let b = ne-eqb _ _ (c .if2 .taken) in
+    (rw (a, b), rw (a, b))
+
+returns-3 : tie.Need-returns-3
+unfolding convolve
+returns-3 c =
+    let a = eq-eqb _ _ (c .before .before .if1 .left) in
+    let b = eq-eqb _ _ (c .before .if2 .left) in
+    let d = ne-eqb _ _ (c .if3 .taken) in
+    (rw (a, b, d), rw (a, b, d))
+
+forty-requires : tie.Need-forty-requires
+forty-requires c κs = search needs
+
+forty-requires-2 : tie.Need-forty-requires-2
+forty-requires-2 c κs = search needs
+
+convolved-requires : tie.Need-convolved-requires
+convolved-requires c κs = search needs
+
+copy-out-requires : tie.Need-copy-out-requires
+copy-out-requires c κs = search needs
+
+same-length : tie.Need-same-length
+same-length c = search needs
+
+returns-4 : tie.Need-returns-4
+unfolding convolve
+returns-4 c =
+    let v = c .before .before .before .before in
+    let w = v .before .before .before in
+    let s = w .before .before in
+    let a = eq-eqb _ _ (s .before .before .if1 .left) in
+    let b = eq-eqb _ _ (s .before .if2 .left) in
+    let d = eq-eqb _ _ (s .if3 .left) in (
+      rw (a, b, d),
+      rw (a, b, d, c .before .copy-out .ensures, v .convolved .ensures, w .forty2 .ensures, w .before .forty .ensures),
+    )
+
+pub convolve-spec : {M : Type 1} → statement M
+convolve-spec =
+    tie.close
+    (tie.spec
+    returns
+    returns-2
+    returns-3
+    forty-requires
+    forty-requires-2
+    convolved-requires
+    copy-out-requires
+    same-length
+    returns-4)

@@ -1,0 +1,56 @@
+-- TS 26.073 Norm_Corr: the target against the excitation filtered at each lag, over the root of that list's energy.
+use mathlib.Core.Bool.{Bool, cond, _&&_}
+use mathlib.Core.List.{List}
+use Prim.Native.Nat.{ℕ, zero, suc, _+_, _-_}
+use lib.Dec.{ltb, leb}
+use lib.IntN.{ℤ, pos, negsuc}
+use lib.Signed.{ltZ}
+use Rattle.fixed.specs.Operators.{add, L-mult, L-shl, shl, extract-h, Mpy-32}
+use Rattle.fixed.specs.Lists.{at, tabulate, dot}
+use Rattle.energy.specs.Root.{Inv-sqrt}
+use Rattle.pitch_search.specs.Filters.{Convolve}
+
+-- the 40 words of the excitation that stand `lag` places before the subframe, which starts at place 154
+unfoldable pub delayed : List ℤ → ℕ → List ℤ
+delayed exc lag = tabulate (λ k. at exc (154 - lag + k)) 40
+
+-- the filtered list of the first lag decides the scale of all: above an energy of 2 ^ 26, words are shifted right by 2
+unfoldable pub loud : List ℤ → Bool
+loud fs = ltZ (pos 67108864) (dot fs fs 40)
+
+abbrev pub scaled : Bool → ℤ → ℤ
+scaled l v = cond l (shl v (negsuc 1)) v
+
+unfoldable pub scaled-all : Bool → List ℤ → List ℤ
+scaled-all l fs = tabulate (λ k. scaled l (at fs k)) 40
+
+-- one lag on: the first word is the sample that comes in, each other its neighbour and the sample's part; h_fac is 3, or 1 where words are scaled
+unfoldable pub update-at : Bool → List ℤ → ℤ → List ℤ → ℕ → ℤ
+update-at l hs sample fs zero = scaled l sample
+update-at l hs sample fs (suc j) = add (extract-h (L-shl (L-mult sample (at hs (suc j))) (pos (cond l 1 3)))) (at fs j)
+
+unfoldable pub update : Bool → List ℤ → ℤ → List ℤ → List ℤ
+update l hs sample fs = tabulate (update-at l hs sample fs) 40
+
+-- the filtered list k lags after the first lag: Convolve at the first, then each from the one before it
+unfoldable pub filtered : Bool → List ℤ → List ℤ → ℕ → List ℤ → ℕ → List ℤ
+filtered l exc hs low fs zero = scaled-all l fs
+filtered l exc hs low fs (suc k) = update l hs (at exc (154 - (low + suc k))) (filtered l exc hs low fs k)
+
+-- Mpy_32 of the clipped sum against the target and of 1 / sqrt (energy)
+unfoldable pub normalized : List ℤ → List ℤ → ℤ
+normalized target fs = extract-h (L-shl (Mpy-32 (dot fs target 40) (Inv-sqrt (dot fs fs 40))) (pos 16))
+
+-- g of each lag from low up to, and without, end; 0 of every other
+abbrev pub between : (ℕ → ℤ) → ℕ → ℕ → ℕ → ℤ
+between g low end lag = cond (leb low lag && ltb lag end) (g lag) (pos 0)
+
+unfoldable pub correlation-at : Bool → List ℤ → List ℤ → List ℤ → ℕ → List ℤ → ℕ → ℤ
+correlation-at l exc target hs low first lag = normalized target (filtered l exc hs low first (lag - low))
+
+-- 01: 'places 16..147 of a list of 148', by the lag
+unfoldable pub correlations-from : List ℤ → List ℤ → List ℤ → List ℤ → ℕ → ℕ → List ℤ
+correlations-from first exc target hs low end = tabulate (between (correlation-at (loud first) exc target hs low first) low end) 148
+
+unfoldable pub correlations : List ℤ → List ℤ → List ℤ → ℕ → ℕ → List ℤ
+correlations exc target hs low end = correlations-from (Convolve (delayed exc low) hs) exc target hs low end

@@ -1,0 +1,3 @@
+-- The proof of the statement, and the example computed.
+pub mod Recovered
+pub mod Exemplified

@@ -1,0 +1,46 @@
+-- 01, 'What is turned down, in checking order': an entry's checks are a list, and the first that fails gives the refusal.
+use mathlib.Core.Bool.{Bool, cond, _&&_}
+use mathlib.Core.List.{List, [], _∷_}
+use Prim.Native.Nat.{ℕ}
+use lib.Dec.{leb, eqb}
+use lib.IntN.{ℤ, pos}
+use lib.ListN.{length}
+use Rattle.refusal.specs.Refused.{Told, refused}
+
+pub record Check : Type 0 where
+  pub passes : Bool
+  pub number : ℕ
+  pub detail : ℤ
+
+-- what is accepted where every check passes, else the refusal of the first that fails
+abbrev pub checked : {A : Type 0} → List Check → (ℕ → ℤ → A) → A → A
+checked [] refuse accepted = accepted
+checked (c ∷ cs) refuse accepted = cond (c .passes) (checked cs refuse accepted) (refuse (c .number) (c .detail))
+
+-- what an entry with a state answers, and the state that it keeps for the next call
+pub record Outcome (A S : Type 0) : Type 0 where
+  pub answer : Told A
+  pub after : S
+
+-- a refusal leaves the state as it was
+abbrev pub unless-refused : {A S : Type 0} → List Check → S → Outcome A S → Outcome A S
+unless-refused cs state accepted = checked cs (λ n d. record { answer = refused n d; after = state }) accepted
+
+abbrev pub within : ℕ → ℕ → ℕ → Bool
+within low high n = leb low n && leb n high
+
+-- number 1: a lent list has the length that its stage needs
+abbrev pub length-is : ℕ → List ℤ → Check
+length-is n xs = record { passes = eqb (length xs) n; number = 1; detail = pos (length xs) }
+
+-- number 2: a subframe number is 1 to 4
+abbrev pub subframe-number : ℕ → Check
+subframe-number n = record { passes = within 1 4 n; number = 2; detail = pos n }
+
+-- number 3: an open-loop lag is 20 to 143
+abbrev pub open-loop-lag : ℕ → Check
+open-loop-lag n = record { passes = within 20 143 n; number = 3; detail = pos n }
+
+-- number 4: the subframe n is the expected one
+abbrev pub in-order : ℕ → ℕ → Check
+in-order expected n = record { passes = eqb n expected; number = 4; detail = pos expected }
