@@ -5,7 +5,9 @@ use lib.Dec.{ltb, leb}
 use Rattle.pitch.specs.declared.Fraction.{Fraction}
 use Rattle.pitch.specs.declared.Fraction.the-variants.{MinusThird, Zero, PlusThird}
 use Rattle.pitch.specs.declared.PitchLag.{PitchLag}
-use Rattle.pitch.specs.Kinds.{from-zero}
+use Rattle.pitch.specs.declared.Subframe.{Subframe}
+use Rattle.pitch.specs.Kinds.{from-zero, absolute}
+use Rattle.pitch.specs.Windows.{handset, relative-start}
 
 -- '3 × lag − 58 + fraction up to lag 85, else lag + 112'
 abbrev pub absolute-index : PitchLag → ℕ
@@ -40,3 +42,12 @@ minus-one (suc (suc n)) = PlusThird
 abbrev pub relative-lag : ℕ → ℕ → PitchLag
 relative-lag start index =
     record { samples = start + (index + 2) / 3 - 1; fraction = minus-one (index + 2 - 3 * ((index + 2) / 3)) }
+
+-- ---- by the subframe
+-- the index of a lag in a window that starts at `start`
+abbrev pub index-of : Subframe → ℕ → PitchLag → ℕ
+index-of s start l = cond (absolute s) (absolute-index l) (relative-index start l)
+
+-- the lag of an index after the whole lag `previous`
+abbrev pub lag-of : Subframe → ℕ → ℕ → PitchLag
+lag-of s previous index = cond (absolute s) (absolute-lag index) (relative-lag (relative-start handset previous) index)

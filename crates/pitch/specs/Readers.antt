@@ -1,5 +1,5 @@
 -- The lag reader of 01.
-use mathlib.Core.Bool.{cond, _||_}
+use mathlib.Core.Bool.{_||_}
 use mathlib.Core.List.{[], _∷_}
 use Prim.Native.Nat.{ℕ}
 use lib.Dec.{leb}
@@ -15,8 +15,7 @@ use Rattle.pitch.specs.declared.Reader.{Reader}
 use Rattle.pitch.specs.declared.Reading.{Reading}
 use Rattle.pitch.specs.declared.Reading.the-variants.{Lag, Refused}
 use Rattle.pitch.specs.Kinds.{subframe-number, absolute, following}
-use Rattle.pitch.specs.Windows.{relative-start, handset}
-use Rattle.pitch.specs.Indexes.{absolute-lag, relative-lag}
+use Rattle.pitch.specs.Indexes.{lag-of}
 
 -- 'Fresh searcher and fresh reader: previous lag 40, expecting 1'
 abbrev pub fresh-lag : PitchLag
@@ -33,10 +32,6 @@ told-reading (Refused r) = turned-down r
 -- 01, number 5: a relative index is at most 31
 abbrev pub relative-index-fits : Subframe → ℕ → Check
 relative-index-fits s index = record { passes = absolute s || leb index 31; number = 5; detail = pos index }
-
--- the lag of an index in a subframe after the lag `previous`
-abbrev pub lag-of : Subframe → ℕ → ℕ → PitchLag
-lag-of s previous index = cond (absolute s) (absolute-lag index) (relative-lag (relative-start handset previous) index)
 
 -- what a reading answers, and the reader after it
 unfoldable pub read : Reader → ℕ → ℕ → Outcome PitchLag Reader

@@ -4,7 +4,7 @@ ghost use mathlib.Core.Path.{_≡_};
 ghost use Rattle.refusal.specs.Refused.{values, turned-down};
 ghost use Rattle.pitch.specs.Kinds.{thirds, from-zero, subframe-number, absolute, following, told-lag, try-lag};
 ghost use Rattle.pitch.specs.Windows.{absolute-start, relative-start, handset};
-ghost use Rattle.pitch.specs.Indexes.{absolute-index, relative-index, fraction-at, absolute-lag, relative-lag};
+ghost use Rattle.pitch.specs.Indexes.{absolute-index, relative-index, fraction-at, absolute-lag, relative-lag, index-of, lag-of};
 ghost use Rattle.pitch.specs.Readers.{fresh-lag, fresh-reader, told-reading, read};
 
 // Thirds of a sample.
@@ -160,6 +160,26 @@ impl PitchLag {
         }
     }
 
+    // The lag of an index in a subframe, after the whole lag `previous`.
+    pub fn decoded(subframe: Subframe, index: u8, previous: u16) -> Self
+        ensures { λ r. ⌜ r ≡ lag-of subframe previous index ⌝ }
+    {
+        if subframe.absolute() {
+            return PitchLag::from_absolute(index);
+        }
+        PitchLag::from_relative(index, previous)
+    }
+
+    // Its index in a subframe, in a window that starts at `start`.
+    pub fn index(self, subframe: Subframe, start: u16) -> u32
+        ensures { λ r. ⌜ r ≡ index-of subframe start self ⌝ }
+    {
+        if subframe.absolute() {
+            return self.absolute_index();
+        }
+        self.relative_index(start)
+    }
+
     // TS 26.073 Enc_lag3, subframes one and three.
     pub fn absolute_index(self) -> u32
         ensures { λ r. ⌜ r ≡ absolute-index self ⌝ }
@@ -272,13 +292,10 @@ impl Reader {
         if subframe != due.number() {
             return self.refused(Refusal::Order(due.number()));
         }
-        if due.absolute() {
-            return self.taken(PitchLag::from_absolute(index));
-        }
-        if 31 < index {
+        if !due.absolute() & (31 < index) {
             return self.refused(Refusal::RelativeIndex(index));
         }
-        self.taken(PitchLag::from_relative(index, self.previous.samples))
+        self.taken(PitchLag::decoded(due, index, self.previous.samples))
     }
 
     fn refused(self, refusal: Refusal) -> ReaderStep

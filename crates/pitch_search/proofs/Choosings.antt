@@ -16,11 +16,10 @@ use Rattle.pitch.specs.declared.Subframe.the-variants.{One, Two, Three, Four}
 use Rattle.pitch.specs.declared.PitchLag.{PitchLag}
 use Rattle.pitch.specs.Kinds.{absolute}
 use Rattle.pitch.specs.Windows.{handset, absolute-start, relative-start}
-use Rattle.pitch.specs.Indexes.{absolute-index, relative-index, absolute-lag, relative-lag}
-use Rattle.pitch.specs.Readers.{lag-of}
+use Rattle.pitch.specs.Indexes.{absolute-index, relative-index, absolute-lag, relative-lag, index-of, lag-of}
 use Rattle.pitch.proofs.Indexings.{in-thirds, window-low, window-high, absolute-round, relative-round}
 use Rattle.pitch_search.specs.Choices.{Interpol-6, step-value, best-lag, best-step, settled, step-of, chosen}
-use Rattle.pitch_search.specs.Searches.{start-of, span-of, pitch-in, index-of}
+use Rattle.pitch_search.specs.Searches.{start-of, span-of, pitch-in}
 
 module _ (cs : List ℤ) (lag : ℕ) where
   pub step-early : (step : ℕ) → step < 2 → step-value cs lag step ≡ Interpol-6 cs (lag - 1) (2 + 2 * step)

@@ -8,11 +8,18 @@ use lib.Dec.{ltb, leb, eqb}
 use lib.IntN.{ℤ, pos}
 use lib.ListN.{length, getD, set, replicate, getD-replicate}
 use lib.Seq.{getD-set-same, getD-set-other}
-use borrow.Author.Tests.{le-leb, lt-ltb, le-ltb, leb-true, ltb-true, ltb-false, eqb-true, eqb-false}
-use Rattle.fixed.specs.Operators.{add, L-mult, L-shl, extract-h}
-use Rattle.fixed.specs.Lists.{at}
-use Rattle.fixed.proofs.Lists.{Filled}
-use Rattle.pitch_search.specs.Correlations.{update-at, between}
+use borrow.Author.Tests.{le-leb, lt-ltb, le-ltb, leb-true, leb-false, ltb-true, ltb-false, eqb-true, eqb-false}
+use Rattle.fixed.specs.Operators.{add, L-mult, L-mac, L-shl, extract-h}
+use Rattle.fixed.specs.Lists.{at, L-sum}
+use Rattle.fixed.proofs.Lists.{Filled, filled-all}
+use Rattle.pitch_search.specs.Filters.{products-to}
+use Rattle.pitch_search.specs.Correlations.{forty, update-at}
+
+-- 40 words from place 0 of a list of 40 are the list
+pub forty-whole : (xs : List ℤ) → length xs ≡ 40 → forty xs 0 ≡ xs
+unfolding forty
+forty-whole xs e =
+    sym (filled-all (λ k. at xs (0 + k)) (pos 0) 40 xs e (λ k l. let z : k ≡ 0 + k = omega arith in ap (at xs) z))
 
 -- the shift of a filter is never held
 pub shift-held : (l : Bool) → min (cond l 1 3) 15 ≡ cond l 1 3
@@ -28,26 +35,72 @@ update-suc l hs sample fs (suc j) h =
     let e : j ≡ suc j - 1 = omega arith in
     ap (λ (k : ℕ). add (extract-h (L-shl (L-mult sample (at hs (suc j))) (pos (cond l 1 3)))) (at fs k)) e
 
+-- ---- a list that is filled place by place from `low` on: g where it is filled, d elsewhere
+abbrev pub among : (ℕ → ℤ) → (ℕ → ℤ) → ℕ → ℕ → ℕ → ℤ
+among g d low end k = cond (leb low k && ltb k end) (g k) (d k)
+
 -- nothing is placed yet
-pub none-placed : (g : ℕ → ℤ) (low n : ℕ) → Filled (between g low low) (pos 0) n (replicate n (pos 0))
-none-placed g low n k h = getD-replicate n k (pos 0) (pos 0) h ∙ go (leb low k) refl
+pub none-placed : (g d : ℕ → ℤ) (low n : ℕ) (xs : List ℤ) → Filled d (pos 0) n xs → Filled (among g d low low) (pos 0) n xs
+none-placed g d low n xs p k h = p k h ∙ go (leb low k) refl
   where
-    go : (t : Bool) → leb low k ≡ t → pos 0 ≡ between g low low k
+    go : (t : Bool) → leb low k ≡ t → d k ≡ among g d low low k
     go true q = rw (q, le-ltb k low (leb-true low k q))
     go false q = rw q
 
--- one lag more
-pub placed-more : (g : ℕ → ℤ) (low m n : ℕ) (xs : List ℤ) (v : ℤ) → low ≤ m → m < length xs → v ≡ g m →
-    Filled (between g low m) (pos 0) n xs → Filled (between g low (m + 1)) (pos 0) n (set xs m v)
-placed-more g low m n xs v h l e p k b = go (eqb k m) refl
+pub zeros : (n : ℕ) → Filled (λ k. pos 0) (pos 0) n (replicate n (pos 0))
+zeros n k h = getD-replicate n k (pos 0) (pos 0) h
+
+-- the place at the end is not filled yet
+pub at-end : (g d : ℕ → ℤ) (low m : ℕ) → among g d low m m ≡ d m
+at-end g d low m = go (leb low m)
+  where
+    go : (t : Bool) → cond (t && ltb m m) (g m) (d m) ≡ d m
+    go true = rw (le-ltb m m (omega arith))
+    go false = refl
+
+-- one place more
+pub placed-more : (g d : ℕ → ℤ) (low m n : ℕ) (xs : List ℤ) (v : ℤ) → low ≤ m → m < length xs → v ≡ g m →
+    Filled (among g d low m) (pos 0) n xs → Filled (among g d low (m + 1)) (pos 0) n (set xs m v)
+placed-more g d low m n xs v h l e p k b = go (eqb k m) refl
   where
     -- the end moves past m alone
     moved : (t : Bool) → ltb k m ≡ t → (k ≡ m → ⊥) → ltb k m ≡ ltb k (m + 1)
-    moved true q d = q ∙ sym (lt-ltb k (m + 1) (omega (arith, ltb-true k m q)))
-    moved false q d = q ∙ sym (le-ltb k (m + 1) (omega (arith, ltb-false k m q, d)))
+    moved true q o = q ∙ sym (lt-ltb k (m + 1) (omega (arith, ltb-true k m q)))
+    moved false q o = q ∙ sym (le-ltb k (m + 1) (omega (arith, ltb-false k m q, o)))
 
-    go : (t : Bool) → eqb k m ≡ t → getD (set xs m v) k (pos 0) ≡ between g low (m + 1) k
+    go : (t : Bool) → eqb k m ≡ t → getD (set xs m v) k (pos 0) ≡ among g d low (m + 1) k
     go true q = rw (eqb-true k m q, le-leb low m h, lt-ltb m (m + 1) (omega arith)) (getD-set-same xs m v (pos 0) l ∙ e)
     go false q =
-        let d = eqb-false k m q in
-        getD-set-other xs m k v (pos 0) d ∙ p k b ∙ ap (λ (t : Bool). cond (leb low k && t) (g k) (pos 0)) (moved (ltb k m) refl d)
+        let o = eqb-false k m q in
+        getD-set-other xs m k v (pos 0) o ∙ p k b ∙ ap (λ (t : Bool). cond (leb low k && t) (g k) (d k)) (moved (ltb k m) refl o)
+
+-- ---- Convolve with its sums side by side: what place n holds once i words of the input are taken in
+module _ (xs hs : List ℤ) where
+  abbrev pub taken-in : ℕ → ℕ → ℤ
+  taken-in i n = products-to xs hs n (min i (suc n))
+
+  pub none-taken : Filled (taken-in 0) (pos 0) 40 (replicate 40 (pos 0))
+  unfolding products-to L-sum
+  none-taken k h = let e : min 0 (suc k) ≡ 0 = omega arith in rw e (zeros 40 k h)
+
+  -- a word more, at a place that it reaches
+  pub term-more : (i n : ℕ) → i ≤ n → L-mac (taken-in i n) (at xs i) (at hs (n - i)) ≡ taken-in (i + 1) n
+  unfolding products-to L-sum L-mac
+  term-more i n h =
+      let a : min i (suc n) ≡ i = omega arith in
+      let b : min (i + 1) (suc n) ≡ suc i = omega arith in
+      rw (a, b)
+
+  -- and at a place that it does not
+  pub row-done : (i : ℕ) (ss : List ℤ) → Filled (among (taken-in (i + 1)) (taken-in i) i 40) (pos 0) 40 ss → Filled (taken-in (i + 1)) (pos 0) 40 ss
+  row-done i ss p k h = p k h ∙ go (leb i k) refl
+    where
+      go : (t : Bool) → leb i k ≡ t → among (taken-in (i + 1)) (taken-in i) i 40 k ≡ taken-in (i + 1) k
+      go true q = rw (q, lt-ltb k 40 h)
+      go false q =
+          let l = leb-false i k q in
+          let e : min i (suc k) ≡ min (i + 1) (suc k) = omega arith in
+          rw q (ap (products-to xs hs k) e)
+
+  pub all-taken : (ss : List ℤ) → Filled (taken-in 40) (pos 0) 40 ss → Filled (λ n. products-to xs hs n (suc n)) (pos 0) 40 ss
+  all-taken ss p k h = let e : min 40 (suc k) ≡ suc k = omega arith in p k h ∙ ap (products-to xs hs k) e

@@ -10,9 +10,9 @@ use Rattle.fixed.specs.Lists.{at, tabulate, dot}
 use Rattle.energy.specs.Root.{Inv-sqrt}
 use Rattle.pitch_search.specs.Filters.{Convolve}
 
--- the 40 words of the excitation that stand `lag` places before the subframe, which starts at place 154
-unfoldable pub delayed : List ℤ → ℕ → List ℤ
-delayed exc lag = tabulate (λ k. at exc (154 - lag + k)) 40
+-- 40 words of a list, from a place on
+unfoldable pub forty : List ℤ → ℕ → List ℤ
+forty xs from = tabulate (λ k. at xs (from + k)) 40
 
 -- the filtered list of the first lag decides the scale of all: above an energy of 2 ^ 26, words are shifted right by 2
 unfoldable pub loud : List ℤ → Bool
@@ -52,5 +52,6 @@ correlation-at l exc target hs low first lag = normalized target (filtered l exc
 unfoldable pub correlations-from : List ℤ → List ℤ → List ℤ → List ℤ → ℕ → ℕ → List ℤ
 correlations-from first exc target hs low end = tabulate (between (correlation-at (loud first) exc target hs low first) low end) 148
 
+-- the excitation's subframe starts at place 154, and the first lag's words `low` places before it
 unfoldable pub correlations : List ℤ → List ℤ → List ℤ → ℕ → ℕ → List ℤ
-correlations exc target hs low end = correlations-from (Convolve (delayed exc low) hs) exc target hs low end
+correlations exc target hs low end = correlations-from (Convolve (forty exc (154 - low)) hs) exc target hs low end

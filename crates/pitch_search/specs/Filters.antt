@@ -9,9 +9,13 @@ use Rattle.refusal.specs.Checks.{Check, Outcome, checked, unless-refused, lengt
 use Rattle.pitch_search.specs.declared.Convolution.{Convolution}
 use Rattle.pitch_search.specs.declared.Convolution.the-variants.{Written, Refused}
 
--- place n: the clipped sum of n + 1 products, shifted to the left by 3, its high word
+-- the first m of the products that place n sums, clipped after every addition
+unfoldable pub products-to : List ℤ → List ℤ → ℕ → ℕ → ℤ
+products-to xs hs n m = L-sum (pos 0) (λ i. L-mult (at xs i) (at hs (n - i))) m
+
+-- place n: the sum of n + 1 products, shifted to the left by 3, its high word
 unfoldable pub convolved-at : List ℤ → List ℤ → ℕ → ℤ
-convolved-at xs hs n = extract-h (L-shl (L-sum (pos 0) (λ i. L-mult (at xs i) (at hs (n - i))) (suc n)) (pos 3))
+convolved-at xs hs n = extract-h (L-shl (products-to xs hs n (suc n)) (pos 3))
 
 unfoldable pub Convolve : List ℤ → List ℤ → List ℤ
 Convolve xs hs = tabulate (convolved-at xs hs) 40

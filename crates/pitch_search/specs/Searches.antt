@@ -11,7 +11,7 @@ use Rattle.pitch.specs.declared.Subframe.the-variants.{One, Two, Three, Four}
 use Rattle.pitch.specs.declared.PitchLag.{PitchLag}
 use Rattle.pitch.specs.Kinds.{subframe-number, absolute, following}
 use Rattle.pitch.specs.Windows.{handset, absolute-start, relative-start}
-use Rattle.pitch.specs.Indexes.{absolute-index, relative-index}
+use Rattle.pitch.specs.Indexes.{index-of}
 use Rattle.pitch.specs.Readers.{fresh-lag}
 use Rattle.pitch_search.specs.declared.SearchedPitch.{SearchedPitch}
 use Rattle.pitch_search.specs.declared.Found.{Found}
@@ -44,10 +44,6 @@ span-of s = cond (absolute s) 6 9
 unfoldable pub pitch-in : Subframe → ℕ → List ℤ → List ℤ → List ℤ → PitchLag
 pitch-in s start exc target hs =
     chosen (absolute s) (correlations exc target hs (start - 4) (start + span-of s + 5)) start (span-of s)
-
--- the index that is sent for it
-abbrev pub index-of : Subframe → ℕ → PitchLag → ℕ
-index-of s start l = cond (absolute s) (absolute-index l) (relative-index start l)
 
 -- an accepted search
 abbrev pub found-at : Search → ℕ → PitchLag → Outcome SearchedPitch Search

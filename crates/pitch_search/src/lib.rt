@@ -7,16 +7,16 @@ use pitch::Subframe;
 use refusal::Refusal;
 ghost use mathlib.Core.Bool.{cond};
 ghost use mathlib.Core.Path.{_≡_};
-ghost use Prim.Native.Nat.{_+_, _-_, _<_, _≤_};
+ghost use Prim.Native.Nat.{suc, _+_, _-_, _<_, _≤_};
 ghost use lib.ListN.{length};
-ghost use Rattle.fixed.specs.Lists.{at};
+ghost use Rattle.fixed.specs.Lists.{tabulate};
 ghost use Rattle.energy.specs.Root.{inverses};
 ghost use Rattle.refusal.specs.Refused.{values, turned-down};
 ghost use Rattle.pitch.specs.Kinds.{following};
-ghost use Rattle.pitch_search.specs.Filters.{convolved-at, Convolve, told-convolution, convolve};
-ghost use Rattle.pitch_search.specs.Correlations.{delayed, loud, scaled, scaled-all, update, normalized, correlations-from, correlations};
+ghost use Rattle.pitch_search.specs.Filters.{products-to, Convolve, told-convolution, convolve};
+ghost use Rattle.pitch_search.specs.Correlations.{forty, loud, scaled, scaled-all, update, normalized, correlations-from, correlations};
 ghost use Rattle.pitch_search.specs.Choices.{interpolator, Interpol-6, step-value, best-lag, best-step, settled, chosen};
-ghost use Rattle.pitch_search.specs.Searches.{fresh-search, told, start-of, span-of, pitch-in, index-of, found-at, accepted, Pitch-fr};
+ghost use Rattle.pitch_search.specs.Searches.{fresh-search, told, start-of, span-of, pitch-in, accepted, Pitch-fr};
 
 const INTERPOLATOR: [i16; 25] = [
     29519,
@@ -66,19 +66,20 @@ pub fn convolve(input: &[i16], impulse_q12: &[i16], output: &mut [i16]) -> Convo
     if output.len() != 40 {
         return Convolution::Refused(Refusal::Length(output.len()));
     }
-    let words = forty(input);
-    let impulse = forty(impulse_q12);
+    let words = forty(input, 0);
+    let impulse = forty(impulse_q12, 0);
     copy_out(&convolved(&words, &impulse), output);
     Convolution::Written
 }
 
-fn forty(list: &[i16]) -> [i16; 40]
-    requires { ⌜ length (now list) ≡ 40 ⌝ }
-    ensures { λ r. ⌜ r ≡ now (list .entry) ⌝ }
+// 40 words of a list, from a place on.
+fn forty(list: &[i16], from: usize) -> [i16; 40]
+    requires { ⌜ from + 40 ≤ length (now list) ⌝ }
+    ensures { λ r. ⌜ r ≡ forty (now (list .entry)) from ⌝ }
 {
     let mut words = [0i16; 40];
     for i in 0..40 {
-        words[i] = list[i];
+        words[i] = list[from + i];
     }
     words
 }
@@ -95,35 +96,29 @@ fn copy_out(words: &[i16; 40], output: &mut [i16])
 fn convolved(input: &[i16; 40], impulse: &[i16; 40]) -> [i16; 40]
     ensures { λ r. ⌜ r ≡ Convolve (now (input .entry)) (now (impulse .entry)) ⌝ }
 {
+    let sums = convolution_sums(input, impulse);
     let mut output = [0i16; 40];
     for n in 0..40 {
-        output[n] = convolved_at(input, impulse, n);
+        output[n] = fixed::high(fixed::shift(sums[n], 3));
     }
     output
 }
 
-fn convolved_at(input: &[i16; 40], impulse: &[i16; 40], n: usize) -> i16
-    requires { ⌜ n < 40 ⌝ }
-    ensures { λ r. ⌜ r ≡ convolved-at (now (input .entry)) (now (impulse .entry)) n ⌝ }
+// Word by word of the input: the 40 sums grow side by side, each in its own order.
+fn convolution_sums(input: &[i16; 40], impulse: &[i16; 40]) -> [i32; 40]
+    ensures { λ r. ⌜ r ≡ tabulate (λ n. products-to (now (input .entry)) (now (impulse .entry)) n (suc n)) 40 ⌝ }
 {
-    let mut sum: i32 = 0;
-    for i in 0..n + 1 {
-        sum = fixed::mac(sum, input[i], impulse[n - i]);
+    let mut sums = [0i32; 40];
+    let mut i = 0;
+    while i < 40 {
+        let mut n = i;
+        while n < 40 {
+            sums[n] = fixed::mac(sums[n], input[i], impulse[n - i]);
+            n += 1;
+        }
+        i += 1;
     }
-    fixed::high(fixed::shift(sum, 3))
-}
-
-// The 40 words that stand `lag` places before the subframe.
-fn delayed(excitation: &[i16], lag: usize) -> [i16; 40]
-    requires { ⌜ (length (now excitation) ≡ 194) × (lag ≤ 154) ⌝ }
-    ensures { λ r. ⌜ r ≡ delayed (now (excitation .entry)) lag ⌝ }
-{
-    let mut words = [0i16; 40];
-    let from = 154 - lag;
-    for i in 0..40 {
-        words[i] = excitation[from + i];
-    }
-    words
+    sums
 }
 
 fn is_loud(filtered: &[i16; 40]) -> bool
@@ -196,7 +191,7 @@ fn normalized_correlation(
     requires { ⌜ (length (now excitation) ≡ 194) × (low < end) × (end ≤ 148) ⌝ }
     ensures { λ r. ⌜ r ≡ correlations (now (excitation .entry)) (now (target .entry)) (now (impulse .entry)) low end ⌝ }
 {
-    let first = convolved(&delayed(excitation, low), impulse);
+    let first = convolved(&forty(excitation, 154 - low), impulse);
     correlated(&first, excitation, target, impulse, low, end)
 }
 
@@ -339,8 +334,8 @@ fn pitch_in(
     let span = span(subframe);
     let correlation = normalized_correlation(
         excitation,
-        &forty(target),
-        &forty(impulse),
+        &forty(target, 0),
+        &forty(impulse, 0),
         first - 4,
         first + span + 5,
     );
@@ -470,12 +465,8 @@ impl Search {
         let previous = self.previous.samples;
         let start = window_start(next, previous, first, second);
         let lag = pitch_in(next, start, excitation, target, impulse);
-        if next.absolute() {
-            let index = lag.absolute_index() as u8;
-            return self.sent(PitchLag::from_absolute(index), index);
-        }
-        let index = lag.relative_index(start) as u8;
-        self.sent(PitchLag::from_relative(index, previous), index)
+        let index = lag.index(next, start) as u8;
+        self.sent(PitchLag::decoded(next, index, previous), index)
     }
 
     fn sent(self, lag: PitchLag, index: u8) -> SearchStep

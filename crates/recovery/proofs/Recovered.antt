@@ -19,10 +19,11 @@ use Rattle.pitch.specs.declared.Subframe.the-variants.{One, Two, Three, Four}
 use Rattle.pitch.specs.declared.PitchLag.{PitchLag}
 use Rattle.pitch.specs.declared.Reader.{Reader}
 use Rattle.pitch.specs.Kinds.{subframe-number, absolute, following}
-use Rattle.pitch.specs.Readers.{relative-index-fits, lag-of, read}
+use Rattle.pitch.specs.Indexes.{lag-of}
+use Rattle.pitch.specs.Readers.{relative-index-fits, read}
 use Rattle.pitch_search.specs.declared.Search.{Search}
 use Rattle.pitch_search.specs.declared.SearchedPitch.{SearchedPitch}
-use Rattle.pitch_search.specs.Searches.{start-of, pitch-in, index-of, accepted, search-checks, Pitch-fr}
+use Rattle.pitch_search.specs.Searches.{accepted, search-checks, Pitch-fr}
 use Rattle.pitch_search.proofs.Choosings.{sent-back}
 use Rattle.recovery.specs.Runs.{Input, Entry, search, reset, stray, State, fresh-state, Place, Event, at-place, search-refused, made-fresh, strayed, Step, answered, searched, step, run}
 use Rattle.recovery.specs.Statement.{Last, none, last, last-after, due, one-or-three, Intact, Follows-intact, Within-width, Stray, Answers, Is-refused, Recovers, Each, Recovery}

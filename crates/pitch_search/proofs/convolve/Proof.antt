@@ -1,6 +1,6 @@
 use borrow.Author.Tests.{eq-eqb, ne-eqb}
-use lib.ListN.{length}
 use Rattle.pitch_search.specs.Filters.{convolve}
+use Rattle.pitch_search.proofs.Filterings.{forty-whole}
 use borrow.Author.Needs.{needs}
 use Rattle.pitch_search.proofs.convolve.Statement.{statement}
 use Rattle.pitch_search.proofs.convolve.Tie as tie
@@ -45,11 +45,22 @@ returns-4 c =
     let v = c .before .before .before .before in
     let w = v .before .before .before in
     let s = w .before .before in
+    let i = s .before .before .before .args in
     let a = eq-eqb _ _ (s .before .before .if1 .left) in
     let b = eq-eqb _ _ (s .before .if2 .left) in
     let d = eq-eqb _ _ (s .if3 .left) in (
       rw (a, b, d),
-      rw (a, b, d, c .before .copy-out .ensures, v .convolved .ensures, w .forty2 .ensures, w .before .forty .ensures),
+      rw (
+        a,
+        b,
+        d,
+        c .before .copy-out .ensures,
+        v .convolved .ensures,
+        w .forty2 .ensures,
+        w .before .forty .ensures,
+        forty-whole (i .input .now) (s .before .before .if1 .left),
+        forty-whole (i .impulse-q12 .now) (s .before .if2 .left),
+      ),
     )
 
 pub convolve-spec : {M : Type 1} → statement M

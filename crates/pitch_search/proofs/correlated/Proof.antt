@@ -13,7 +13,7 @@ use Rattle.fixed.proofs.Bounds.{got}
 use Rattle.fixed.proofs.Lists.{Filled, filled-all}
 use Rattle.energy.specs.Root.{inverses}
 use Rattle.pitch_search.specs.Correlations.{loud, filtered, between, correlation-at, correlations-from}
-use Rattle.pitch_search.proofs.Filterings.{none-placed, placed-more}
+use Rattle.pitch_search.proofs.Filterings.{none-placed, zeros, placed-more}
 use Rattle.pitch_search.proofs.correlated.Statement.{statement}
 use Rattle.pitch_search.proofs.correlated.Tie as tie
 
@@ -73,7 +73,7 @@ loop-holds c =
       f .before .is-loud .ensures,
       rw (o, f .scaled-all .ensures),
       length-set (replicate 148 (pos 0)) (a .low) v,
-      placed-more g (a .low) (a .low) 148 (replicate 148 (pos 0)) v (le-refl (a .low)) (omega (arith, s .pre .1, s .pre .2)) e (none-placed g (a .low) 148),
+      placed-more g (λ k. pos 0) (a .low) (a .low) 148 (replicate 148 (pos 0)) v (le-refl (a .low)) (omega (arith, s .pre .1, s .pre .2)) e (none-placed g (λ k. pos 0) (a .low) 148 (replicate 148 (pos 0)) (zeros 148)),
     )
 
 sub-update : tie.Need-sub-update Inv-loop μ-loop
@@ -130,7 +130,7 @@ loop-again c =
       s .loop .inv .5,
       rw o f,
       length-set (s .loop .correlation) n v ∙ s .loop .inv .7,
-      placed-more g (a .low) n 148 (s .loop .correlation) v (omega (arith, s .loop .inv .0)) (omega (arith, s .loop .inv .7)) e (s .loop .inv .8),
+      placed-more g (λ k. pos 0) (a .low) n 148 (s .loop .correlation) v (omega (arith, s .loop .inv .0)) (omega (arith, s .loop .inv .7)) e (s .loop .inv .8),
     )
 
 returns : tie.Need-returns Inv-loop μ-loop

@@ -1,30 +1,29 @@
-use mathlib.Core.Path.{sym, _∙_}
-use mir.Val.{ofZ}
-use mathlib.Core.Path.{_≡_, refl}
-use Prim.Native.Nat.{_≤_, _<_, _-_, _+_}
+use mathlib.Core.Path.{_≡_, refl, _∙_}
+use Prim.Native.Nat.{ℕ, _≤_, _-_, _+_}
 use native.Mathlib.Omega.{arith}
-use native.Mathlib.Numerals.{add-one}
 use borrow.Author.Needs.{needs}
-use lib.IntN.{pos}
-use lib.ListN.{length}
-use mir.Syntax.{w16, w32}
-use mir.Val.{toZ}
+use lib.IntN.{ℤ, pos}
+use lib.ListN.{length, length-set}
+use mir.Syntax.{w16}
+use mir.Val.{toZ, ofZ}
 use Rattle.fixed.proofs.Bounds.{got}
-use lib.ListN.{length-set}
-use lib.Seq.{ext-getD}
 use Rattle.fixed.specs.Lists.{at}
-use Rattle.fixed.proofs.Lists.{Filled, filled-more}
+use Rattle.fixed.proofs.Lists.{Filled, filled-more, filled-all}
+use Rattle.pitch_search.specs.Correlations.{forty}
 use Rattle.pitch_search.proofs.forty.Statement.{statement}
 use Rattle.pitch_search.proofs.forty.Tie as tie
 
 abbrev Inv-loop : tie.InvT-loop
-Inv-loop list words₀ i₀ words i = (i ≤ 40) × (length words ≡ 40) × Filled (at list) (pos 0) i words
+Inv-loop list from words₀ i₀ words i = (from + 40 ≤ length list) × (i ≤ 40) × (length words ≡ 40) × Filled (λ k. at list (from + k)) (pos 0) i words
 
 abbrev μ-loop : tie.MeasureT-loop
-μ-loop list words₀ i₀ words i = 40 - i
+μ-loop list from words₀ i₀ words i = 40 - i
 
 loop-holds : tie.Need-loop-holds Inv-loop μ-loop
-loop-holds c = (omega arith, refl, λ k l. absurd (omega arith))
+loop-holds c = (c .pre, omega arith, refl, λ k l. absurd (omega arith))
+
+add-words : tie.Need-add-words Inv-loop μ-loop
+add-words c = search needs
 
 mul-words : tie.Need-mul-words Inv-loop μ-loop
 mul-words c = search needs
@@ -47,18 +46,22 @@ loop-less c = search needs
 loop-again : tie.Need-loop-again Inv-loop μ-loop
 loop-again c =
     let s = c .before .before in
-    let xs = s .before .args .list .now in
-    let v : toZ w16 (ofZ w16 (at xs (s .loop .i))) ≡ at xs (s .loop .i) = got w16 (c .words .given) refl in (
+    let a = s .before .args in
+    let f : ℕ → ℤ = λ k. at (a .list .now) (a .from + k) in
+    let v : ℤ = toZ w16 (ofZ w16 (f (s .loop .i))) in (
+      s .loop .inv .0,
       omega arith,
-      length-set (s .loop .words) (s .loop .i) (toZ w16 (ofZ w16 (at xs (s .loop .i)))) ∙ s .loop .inv .1,
-      filled-more (at xs) (pos 0) (s .loop .i) (s .loop .words) (toZ w16 (ofZ w16 (at xs (s .loop .i)))) (omega arith) v (s .loop .inv .2),
+      length-set (s .loop .words) (s .loop .i) v ∙ s .loop .inv .2,
+      filled-more f (pos 0) (s .loop .i) (s .loop .words) v (omega arith) (got w16 (c .words .given) refl) (s .loop .inv .3),
     )
 
 returns : tie.Need-returns Inv-loop μ-loop
+unfolding forty
 returns c =
     let s = c .before in
-    let xs = s .before .args .list .now in
-    ext-getD (pos 0) (s .loop .words) xs (omega arith) (λ k l. s .loop .inv .2 k (omega arith))
+    let a = s .before .args in
+    let e : s .loop .i ≡ 40 = omega arith in
+    filled-all (λ k. at (a .list .now) (a .from + k)) (pos 0) 40 (s .loop .words) (s .loop .inv .2) (rw e at (s .loop .inv .3))
 
 pub forty-spec : {M : Type 1} → statement M
 forty-spec =
@@ -67,6 +70,7 @@ forty-spec =
     Inv-loop
     μ-loop
     loop-holds
+    add-words
     mul-words
     shared-slice-copy-out-words
     mul-words-2

@@ -1,4 +1,5 @@
 use Rattle.pitch_search.specs.Searches.{pitch-in}
+use Rattle.pitch_search.proofs.Filterings.{forty-whole}
 use borrow.Author.Needs.{needs}
 use Rattle.pitch_search.proofs.pitch_in.Statement.{statement}
 use Rattle.pitch_search.proofs.pitch_in.Tie as tie
@@ -35,6 +36,7 @@ unfolding pitch-in
 returns c =
     let n = c .before .before .before in
     let f = n .before .before in
+    let s = f .before .before .before .before in
     rw (
       c .chosen .ensures,
       c .before .before .absolute .ensures,
@@ -42,6 +44,8 @@ returns c =
       f .forty2 .ensures,
       f .before .before .forty .ensures,
       f .before .before .before .span .ensures,
+      forty-whole (s .args .target .now) (s .pre .1),
+      forty-whole (s .args .impulse .now) (s .pre .2),
     )
 
 pub pitch-in-spec : {M : Type 1} → statement M

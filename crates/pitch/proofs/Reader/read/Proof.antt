@@ -1,20 +1,43 @@
-use mathlib.Core.Path.{sym, _∙_}
+use mathlib.Core.Path.{_≡_, sym, _∙_}
+use mathlib.Core.Bool.{true, false}
+use mathlib.Core.List.{[], _∷_}
 use borrow.Author.Tests.{le-leb, lt-leb, eq-eqb, ne-eqb}
-use Rattle.pitch.specs.Kinds.{subframe-number}
-use Rattle.pitch.specs.Readers.{read}
-use borrow.Author.Needs.{needs}
+use Rattle.refusal.specs.Refused.{values}
+use Rattle.refusal.specs.Checks.{unless-refused, in-order}
+use Rattle.pitch.specs.Kinds.{subframe-number, absolute, following}
+use Rattle.pitch.specs.Indexes.{lag-of}
+use Rattle.pitch.specs.Readers.{relative-index-fits, read}
+use Rattle.pitch.proofs.LagChecks.{width-test}
 use Rattle.pitch.proofs.Reader.read.Statement.{statement}
 use Rattle.pitch.proofs.Reader.read.Tie as tie
 
+-- past number 2
+module _ (c : tie.Else2) where
+  abbrev started : tie.Start
+  started = c .before .before
+
+  past : read (started .args .self) (started .args .subframe) (started .args .index)
+      ≡ unless-refused (in-order (subframe-number (started .args .self .next)) (started .args .subframe) ∷ relative-index-fits (started .args .self .next) (started .args .index) ∷ []) (started .args .self)
+      (record {
+        answer = values (lag-of (started .args .self .next) (started .args .self .previous .samples) (started .args .index));
+        after =
+            record {
+              previous = lag-of (started .args .self .next) (started .args .self .previous .samples) (started .args .index);
+              next = following (started .args .self .next);
+            };
+      })
+  unfolding read
+  past = let n = started .args .subframe in rw (le-leb 1 n (c .before .if1 .left), le-leb n 4 (c .if2 .left))
+
 refused-requires : tie.Need-refused-requires
-refused-requires c κs = search needs
+refused-requires c κs = tt
 
 returns : tie.Need-returns
 unfolding read
 returns c = rw (lt-leb 1 (c .before .before .args .subframe) (c .before .if1 .taken)) (c .refused .ensures)
 
 refused-requires-2 : tie.Need-refused-requires-2
-refused-requires-2 c κs = search needs
+refused-requires-2 c κs = tt
 
 returns-2 : tie.Need-returns-2
 unfolding read
@@ -23,95 +46,61 @@ returns-2 c =
     rw (le-leb 1 n (c .before .before .if1 .left), lt-leb n 4 (c .before .if2 .taken)) (c .refused2 .ensures)
 
 number-requires : tie.Need-number-requires
-number-requires c κs = search needs
+number-requires c κs = tt
 
 number-requires-2 : tie.Need-number-requires-2
-number-requires-2 c κs = search needs
+number-requires-2 c κs = tt
 
 refused-requires-3 : tie.Need-refused-requires-3
-refused-requires-3 c κs = search needs
+refused-requires-3 c κs = tt
 
 returns-3 : tie.Need-returns-3
-unfolding read
 returns-3 c =
-    let k = c .before .before .before in
-    let s = k .before .before .before in
-    let n = s .args .subframe in
-    let due = subframe-number (s .args .self .next) in
+    let m = c .before .before .before in
+    let a = started (m .before) .args in
     rw (
-      le-leb 1 n (k .before .before .if1 .left),
-      le-leb n 4 (k .before .if2 .left),
-      ne-eqb n due (λ e. c .before .before .if3 .taken (e ∙ sym (k .number .ensures))),
+      past (m .before),
+      ne-eqb (a .subframe) (subframe-number (a .self .next)) (λ e. c .before .before .if3 .taken (e ∙ sym (m .number .ensures))),
       ← (c .before .number2 .ensures),
     )
     (c .refused3 .ensures)
 
 absolute-requires : tie.Need-absolute-requires
-absolute-requires c κs = search needs
-
-from-absolute-requires : tie.Need-from-absolute-requires
-from-absolute-requires c κs = search needs
-
-taken-requires : tie.Need-taken-requires
-taken-requires c κs = search needs
-
-returns-4 : tie.Need-returns-4
-unfolding read
-returns-4 c =
-    let k = c .before .before .before .before .before in
-    let s = k .before .before .before in
-    let n = s .args .subframe in
-    rw (
-      le-leb 1 n (k .before .before .if1 .left),
-      le-leb n 4 (k .before .if2 .left),
-      eq-eqb n (subframe-number (s .args .self .next)) (c .before .before .before .before .if3 .left ∙ k .number .ensures),
-      ← (c .before .before .before .absolute .ensures),
-      c .before .before .if4 .taken,
-      ← (c .before .from-absolute .ensures),
-    )
-    (c .taken .ensures)
+absolute-requires c κs = tt
 
 refused-requires-4 : tie.Need-refused-requires-4
-refused-requires-4 c κs = search needs
+refused-requires-4 c κs = tt
 
-returns-5 : tie.Need-returns-5
-unfolding read
-returns-5 c =
-    let k = c .before .before .before .before .before in
-    let s = k .before .before .before in
-    let n = s .args .subframe in
+returns-4 : tie.Need-returns-4
+returns-4 c =
+    let m = c .before .before .before .before in
+    let a = started (m .before) .args in
+    let t = rw (c .before .before .absolute .ensures) at (c .before .if4 .taken) in
     rw (
-      le-leb 1 n (k .before .before .if1 .left),
-      le-leb n 4 (k .before .if2 .left),
-      eq-eqb n (subframe-number (s .args .self .next)) (c .before .before .before .before .if3 .left ∙ k .number .ensures),
-      ← (c .before .before .before .absolute .ensures),
-      c .before .before .if4 .left,
-      lt-leb (s .args .index) 31 (c .before .if5 .taken),
+      past (m .before),
+      eq-eqb (a .subframe) (subframe-number (a .self .next)) (c .before .before .before .if3 .left ∙ m .number .ensures),
+      width-test (absolute (a .self .next)) (a .index) true t,
     )
     (c .refused4 .ensures)
 
-from-relative-requires : tie.Need-from-relative-requires
-from-relative-requires c κs = search needs
+decoded-requires : tie.Need-decoded-requires
+decoded-requires c κs = tt
 
-taken-requires-2 : tie.Need-taken-requires-2
-taken-requires-2 c κs = search needs
+taken-requires : tie.Need-taken-requires
+taken-requires c κs = tt
 
-returns-6 : tie.Need-returns-6
-unfolding read
-returns-6 c =
-    let k = c .before .before .before .before .before .before in
-    let s = k .before .before .before in
-    let n = s .args .subframe in
+returns-5 : tie.Need-returns-5
+returns-5 c =
+    let m = c .before .before .before .before .before in
+    let a = started (m .before) .args in
+    let t = rw (c .before .before .before .absolute .ensures) at (c .before .before .if4 .left) in
     rw (
-      le-leb 1 n (k .before .before .if1 .left),
-      le-leb n 4 (k .before .if2 .left),
-      eq-eqb n (subframe-number (s .args .self .next)) (c .before .before .before .before .before .if3 .left ∙ k .number .ensures),
-      ← (c .before .before .before .before .absolute .ensures),
-      c .before .before .before .if4 .left,
-      le-leb (s .args .index) 31 (c .before .before .if5 .left),
-      ← (c .before .from-relative .ensures),
+      past (m .before),
+      eq-eqb (a .subframe) (subframe-number (a .self .next)) (c .before .before .before .before .if3 .left ∙ m .number .ensures),
+      width-test (absolute (a .self .next)) (a .index) false t,
+      ← (c .before .decoded .ensures),
     )
-    (c .taken2 .ensures)
+    (c .taken .ensures)
 
 pub read-spec : {M : Type 1} → statement M
 read-spec =
@@ -126,11 +115,8 @@ read-spec =
     refused-requires-3
     returns-3
     absolute-requires
-    from-absolute-requires
-    taken-requires
-    returns-4
     refused-requires-4
-    returns-5
-    from-relative-requires
-    taken-requires-2
-    returns-6)
+    returns-4
+    decoded-requires
+    taken-requires
+    returns-5)
