@@ -1,7 +1,7 @@
 -- A doubled product shifted to the left and its high word taken is the product shifted to the right and clipped once.
 use mathlib.Core.Path.{_≡_, sym, ap, subst, _∙_}
 use mathlib.Core.Bool.{Bool, true, false}
-use Prim.Native.Nat.{ℕ, zero, suc, _+_, _-_, _*_, _/_, _^_, _<_, _≤_, min}
+use Prim.Native.Nat.{ℕ, suc, _+_, _-_, _*_, _/_, _^_, _≤_, min}
 use native.Mathlib.Nat.{mul-div-mul-right, div-div-eq-div-mul, mul-comm}
 use native.Mathlib.Omega.{arith}
 use lib.Arith.{digits-div}

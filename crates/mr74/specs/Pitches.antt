@@ -1,6 +1,4 @@
 -- Searcher, reader and the answers of the closed loop as the structs that cross to Rust and C.
-use mathlib.Core.Bool.{cond}
-use mathlib.Core.List.{List}
 use Prim.Native.Nat.{ℕ, zero, suc}
 use lib.IntN.{ℤ, pos, negsuc}
 use Rattle.refusal.specs.Refused.{Told, values, refused, sign-magnitude}

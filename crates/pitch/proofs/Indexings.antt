@@ -2,7 +2,7 @@
 use mathlib.Core.Path.{_≡_, refl, ap}
 use mathlib.Core.Bool.{Bool, true, false}
 use mathlib.Core.Logic.{_⊎_, inl, inr}
-use Prim.Native.Nat.{ℕ, zero, suc, _+_, _-_, _*_, _/_, _%_, _≤_, _<_}
+use Prim.Native.Nat.{ℕ, zero, suc, _+_, _-_, _*_, _/_, _%_, _≤_}
 use native.Mathlib.Omega.{arith}
 use lib.Dec.{leb}
 use borrow.Author.Tests.{lt-ltb, le-ltb, le-leb, leb-true}
@@ -11,7 +11,7 @@ use Rattle.pitch.specs.declared.Fraction.the-variants.{MinusThird, Zero,
 use Rattle.pitch.specs.declared.PitchLag.{PitchLag}
 use Rattle.pitch.specs.Kinds.{from-zero}
 use Rattle.pitch.specs.Windows.{window-start, absolute-start, relative-start}
-use Rattle.pitch.specs.Indexes.{absolute-index, relative-index, by-remainder, fraction-at, minus-one, absolute-lag, relative-lag}
+use Rattle.pitch.specs.Indexes.{absolute-index, relative-index, fraction-at, minus-one, absolute-lag, relative-lag}
 
 -- ---- fractions
 pub from-zero-le : (f : Fraction) → from-zero f ≤ 2

@@ -7,6 +7,16 @@ ghost use Rattle.pitch.specs.Windows.{absolute-start, relative-start, ha
 ghost use Rattle.pitch.specs.Indexes.{absolute-index, relative-index, fraction-at, absolute-lag, relative-lag, index-of, lag-of};
 ghost use Rattle.pitch.specs.Readers.{fresh-lag, fresh-reader, told-reading, read};
 
+const INITIAL_LAG_SAMPLES: u16 = 40;
+
+const FRACTIONAL_INDEX_LIMIT: u16 = 197;
+
+const DIRECT_LAG_OFFSET: u16 = 112;
+
+const FRACTIONAL_LAG_BASE: u16 = 19;
+
+const MAX_DELTA_INDEX: u8 = 31;
+
 // Thirds of a sample.
 pub enum Fraction {
     MinusThird,
@@ -135,15 +145,15 @@ impl PitchLag {
         ensures { λ r. ⌜ r ≡ absolute-lag index ⌝ }
     {
         let wide = index as u16;
-        if wide < 197 {
+        if wide < FRACTIONAL_INDEX_LIMIT {
             let fraction = Fraction::at(index);
             return PitchLag {
-                samples: (wide + 2) / 3 + 19,
+                samples: (wide + 2) / 3 + FRACTIONAL_LAG_BASE,
                 fraction,
             };
         }
         PitchLag {
-            samples: wide - 112,
+            samples: wide - DIRECT_LAG_OFFSET,
             fraction: Fraction::Zero,
         }
     }
@@ -240,7 +250,7 @@ pub fn fresh_lag() -> PitchLag
     ensures { λ r. ⌜ r ≡ fresh-lag ⌝ }
 {
     PitchLag {
-        samples: 40,
+        samples: INITIAL_LAG_SAMPLES,
         fraction: Fraction::Zero,
     }
 }
@@ -292,7 +302,7 @@ impl Reader {
         if subframe != due.number() {
             return self.refused(Refusal::Order(due.number()));
         }
-        if !due.absolute() & (31 < index) {
+        if !due.absolute() & (MAX_DELTA_INDEX < index) {
             return self.refused(Refusal::RelativeIndex(index));
         }
         self.taken(PitchLag::decoded(due, index, self.previous.samples))

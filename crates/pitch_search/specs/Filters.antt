@@ -4,8 +4,8 @@ use Prim.Native.Nat.{ℕ, suc, _-_}
 use lib.IntN.{ℤ, pos}
 use Rattle.fixed.specs.Operators.{L-mult, L-shl, extract-h}
 use Rattle.fixed.specs.Lists.{at, tabulate, L-sum}
-use Rattle.refusal.specs.Refused.{Told, values, refused, turned-down}
-use Rattle.refusal.specs.Checks.{Check, Outcome, checked, unless-refused, length-is}
+use Rattle.refusal.specs.Refused.{Told, values, turned-down}
+use Rattle.refusal.specs.Checks.{Outcome, unless-refused, length-is}
 use Rattle.pitch_search.specs.declared.Convolution.{Convolution}
 use Rattle.pitch_search.specs.declared.Convolution.the-variants.{Written, Refused}
 

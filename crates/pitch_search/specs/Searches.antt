@@ -43,7 +43,7 @@ span-of s = cond (absolute s) 6 9
 -- the lag and the fraction chosen in a window; the correlations go 4 lags further at each side
 unfoldable pub pitch-in : Subframe → ℕ → List ℤ → List ℤ → List ℤ → PitchLag
 pitch-in s start exc target hs =
-    chosen (absolute s) (correlations exc target hs (start - 4) (start + span-of s + 5)) start (span-of s)
+    chosen (absolute s) (correlations exc target hs (start - 4) (start + span-of s + 4 + 1)) start (span-of s)
 
 -- an accepted search
 abbrev pub found-at : Search → ℕ → PitchLag → Outcome SearchedPitch Search

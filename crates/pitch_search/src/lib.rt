@@ -18,6 +18,27 @@ ghost use Rattle.pitch_search.specs.Correlations.{forty, loud, scaled, s
 ghost use Rattle.pitch_search.specs.Choices.{interpolator, Interpol-6, step-value, best-lag, best-step, settled, chosen};
 ghost use Rattle.pitch_search.specs.Searches.{fresh-search, told, start-of, span-of, pitch-in, accepted, Pitch-fr};
 
+const SUBFRAME_SAMPLES: usize = 40;
+
+const HISTORY_SAMPLES: usize = 154;
+
+const EXCITATION_SAMPLES: usize = 194;
+
+const INTERPOLATION_SAMPLES: usize = 4;
+
+const MAX_FRACTIONAL_LAG: usize = 84;
+
+const ABSOLUTE_SPAN: usize = 6;
+
+const RELATIVE_SPAN: usize = 9;
+
+const FILTER_SHIFT: u32 = 3;
+
+const SCALED_FILTER_SHIFT: u32 = 1;
+
+const ENERGY_LIMIT: i32 = 67108864;
+
+// TS 26.073 Interpol_3or6 uses this filter for the search.
 const INTERPOLATOR: [i16; 25] = [
     29519,
     28316,
@@ -57,13 +78,13 @@ pub fn convolve(input: &[i16], impulse_q12: &[i16], output: &mut [i16]) -> Convo
     ensures { λ r. ⌜ (told-convolution r ≡ convolve (now (input .entry)) (now («impulse_q12» .entry)) (now (output .entry)) .answer)
         × (now (output .exit) ≡ convolve (now (input .entry)) (now («impulse_q12» .entry)) (now (output .entry)) .after) ⌝ }
 {
-    if input.len() != 40 {
+    if input.len() != SUBFRAME_SAMPLES {
         return Convolution::Refused(Refusal::Length(input.len()));
     }
-    if impulse_q12.len() != 40 {
+    if impulse_q12.len() != SUBFRAME_SAMPLES {
         return Convolution::Refused(Refusal::Length(impulse_q12.len()));
     }
-    if output.len() != 40 {
+    if output.len() != SUBFRAME_SAMPLES {
         return Convolution::Refused(Refusal::Length(output.len()));
     }
     let words = forty(input, 0);
@@ -124,7 +145,7 @@ fn convolution_sums(input: &[i16; 40], impulse: &[i16; 40]) -> [i32; 40]
 fn is_loud(filtered: &[i16; 40]) -> bool
     ensures { λ r. ⌜ r ≡ loud (now (filtered .entry)) ⌝ }
 {
-    67108864 < fixed::energy40(filtered)
+    ENERGY_LIMIT < fixed::energy40(filtered)
 }
 
 fn scaled(v: i16, loud: bool) -> i16
@@ -166,9 +187,9 @@ fn filter_shift(loud: bool) -> u32
     ensures { λ r. ⌜ r ≡ cond loud 1 3 ⌝ }
 {
     if loud {
-        return 1;
+        return SCALED_FILTER_SHIFT;
     }
-    3
+    FILTER_SHIFT
 }
 
 fn normalized(filtered: &[i16; 40], target: &[i16; 40], roots: &[u16; 49]) -> i16
@@ -191,7 +212,7 @@ fn normalized_correlation(
     requires { ⌜ (length (now excitation) ≡ 194) × (low < end) × (end ≤ 148) ⌝ }
     ensures { λ r. ⌜ r ≡ correlations (now (excitation .entry)) (now (target .entry)) (now (impulse .entry)) low end ⌝ }
 {
-    let first = convolved(&forty(excitation, 154 - low), impulse);
+    let first = convolved(&forty(excitation, HISTORY_SAMPLES - low), impulse);
     correlated(&first, excitation, target, impulse, low, end)
 }
 
@@ -213,7 +234,7 @@ fn correlated(
     correlation[low] = normalized(&filtered, target, &roots);
     let mut next = low + 1;
     while next < end {
-        filtered = update(&filtered, excitation[154 - next], impulse, loud);
+        filtered = update(&filtered, excitation[HISTORY_SAMPLES - next], impulse, loud);
         correlation[next] = normalized(&filtered, target, &roots);
         next += 1;
     }
@@ -242,7 +263,7 @@ fn interpolated(correlation: &[i16; 148], place: usize, phase: usize, table: &[i
     ensures { λ r. ⌜ r ≡ Interpol-6 (now (correlation .entry)) place phase ⌝ }
 {
     let mut sum: i32 = 0;
-    for i in 0..4 {
+    for i in 0..INTERPOLATION_SAMPLES {
         sum = fixed::mac(sum, correlation[place - i], table[phase + 6 * i]);
         sum = fixed::mac(sum, correlation[place + 1 + i], table[6 - phase + 6 * i]);
     }
@@ -313,7 +334,7 @@ fn chosen(absolute: bool, correlation: &[i16; 148], start: usize, span: usize) -
     ensures { λ r. ⌜ r ≡ chosen absolute (now (correlation .entry)) start span ⌝ }
 {
     let lag = best_lag(correlation, start, span);
-    if absolute & (84 < lag) {
+    if absolute & (MAX_FRACTIONAL_LAG < lag) {
         return settled(lag as u16, 2);
     }
     settled(lag as u16, best_step(correlation, lag))
@@ -336,8 +357,8 @@ fn pitch_in(
         excitation,
         &forty(target, 0),
         &forty(impulse, 0),
-        first - 4,
-        first + span + 5,
+        first - INTERPOLATION_SAMPLES,
+        first + span + INTERPOLATION_SAMPLES + 1,
     );
     chosen(subframe.absolute(), &correlation, first, span)
 }
@@ -346,9 +367,9 @@ fn span(subframe: Subframe) -> usize
     ensures { λ r. ⌜ r ≡ span-of subframe ⌝ }
 {
     if subframe.absolute() {
-        return 6;
+        return ABSOLUTE_SPAN;
     }
-    9
+    RELATIVE_SPAN
 }
 
 fn window_start(subframe: Subframe, previous: u16, first: u16, second: u16) -> u16
@@ -414,13 +435,13 @@ impl Search {
         ensures { λ r. ⌜ (told (r .found) ≡ Pitch-fr self (now (excitation .entry)) (now (target .entry)) (now («impulse_q12» .entry)) first second subframe .answer)
             × (r .searcher ≡ Pitch-fr self (now (excitation .entry)) (now (target .entry)) (now («impulse_q12» .entry)) first second subframe .after) ⌝ }
     {
-        if excitation.len() != 194 {
+        if excitation.len() != EXCITATION_SAMPLES {
             return self.refused(Refusal::Length(excitation.len()));
         }
-        if target.len() != 40 {
+        if target.len() != SUBFRAME_SAMPLES {
             return self.refused(Refusal::Length(target.len()));
         }
-        if impulse_q12.len() != 40 {
+        if impulse_q12.len() != SUBFRAME_SAMPLES {
             return self.refused(Refusal::Length(impulse_q12.len()));
         }
         if subframe < 1 {

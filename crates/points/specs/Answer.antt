@@ -1,16 +1,14 @@
 -- A question to one of the stages, and what its definition answers: the numbers in the order in which 01 prints them, or a refusal.
 use mathlib.Core.List.{List, [], _∷_}
-use Prim.Native.Nat.{ℕ, zero, suc}
+use Prim.Native.Nat.{ℕ}
 use lib.IntN.{ℤ, pos}
 use Rattle.refusal.specs.Refused.{Told, values, put}
-use Rattle.refusal.specs.Checks.{Outcome}
 use Rattle.logarithm.specs.Powers.{Pow2}
 use Rattle.pitch.specs.declared.PitchLag.{PitchLag}
 use Rattle.pitch.specs.Kinds.{thirds}
 use Rattle.pitch.specs.Windows.{handset, relative-start}
 use Rattle.pitch.specs.Indexes.{absolute-index, absolute-lag, relative-lag}
 use Rattle.pitch_search.specs.declared.Search.{Search}
-use Rattle.pitch_search.specs.declared.SearchedPitch.{SearchedPitch}
 use Rattle.pitch_search.specs.Searches.{fresh-search, Pitch-fr}
 
 pub data Question : Type 0 where

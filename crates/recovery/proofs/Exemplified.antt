@@ -15,11 +15,11 @@ events = refl
 
 widths : Each Within-width none (run fresh-state example)
 unfolding run example search-opens
-widths = (leb→le 189 255 tt, (tt, (tt, (leb→le 5 31 tt, (tt, (leb→le 189 255 tt, (leb→le 27 31 tt, (tt, (leb→le 0 255 tt, tt)))))))))
+widths = (leb→le 189 255 tt, (tt, (tt, (leb→le 5 31 tt, (tt, (leb→le 189 255 tt, (leb→le 27 31 tt, (tt, (leb→le 0 255 tt, (leb→le 27 31 tt, tt))))))))))
 
 strays : Each Stray none (run fresh-state example)
 unfolding run example search-opens
-strays = (tt, (inl (eqb-false 3 2 refl), (inr (inl refl, lit< tt), (tt, (tt, (tt, (tt, (tt, (tt, tt)))))))))
+strays = (tt, (inl (eqb-false 3 2 refl), (inr (inl refl, lit< tt), (tt, (tt, (tt, (tt, (tt, (tt, (tt, tt))))))))))
 
 pub exemplified : Example
 unfolding Example

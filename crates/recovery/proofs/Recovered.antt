@@ -6,12 +6,12 @@ use mathlib.Core.List.{List, [], _∷_}
 use mathlib.Core.Logic.{_⊎_, inl, inr}
 use Prim.Native.Nat.{ℕ, _+_, _%_, _≤_, _<_}
 use native.Mathlib.Omega.{arith}
-use lib.Dec.{leb, eqb}
-use lib.IntN.{ℤ, pos}
+use lib.Dec.{leb}
+use lib.IntN.{ℤ}
 use borrow.Author.Tests.{le-leb, eq-eqb, eqb-true, leb-true}
 use Rattle.fixed.proofs.Clips.{contradiction}
 use Rattle.refusal.specs.Refused.{Told, values, refused}
-use Rattle.refusal.specs.Checks.{Check, Outcome, unless-refused, within, in-order}
+use Rattle.refusal.specs.Checks.{Check, Outcome, within, in-order}
 use Rattle.refusal.specs.Checks as checks
 use Rattle.refusal.proofs.Checkings.{Passes, accepts, passed, passes, failed, kept}
 use Rattle.pitch.specs.declared.Subframe.{Subframe}
@@ -25,8 +25,8 @@ use Rattle.pitch_search.specs.declared.Search.{Search}
 use Rattle.pitch_search.specs.declared.SearchedPitch.{SearchedPitch}
 use Rattle.pitch_search.specs.Searches.{accepted, search-checks, Pitch-fr}
 use Rattle.pitch_search.proofs.Choosings.{sent-back}
-use Rattle.recovery.specs.Runs.{Input, Entry, search, reset, stray, State, fresh-state, Place, Event, at-place, search-refused, made-fresh, strayed, Step, answered, searched, step, run}
-use Rattle.recovery.specs.Statement.{Last, none, last, last-after, due, one-or-three, Intact, Follows-intact, Within-width, Stray, Answers, Is-refused, Recovers, Each, Recovery}
+use Rattle.recovery.specs.Runs.{Input, Entry, search, reset, stray, State, fresh-state, Event, Step, answered, searched, step, run}
+use Rattle.recovery.specs.Statement.{Last, none, last, last-after, due, one-or-three, Follows-intact, Within-width, Stray, Is-refused, Recovers, Each, Recovery}
 
 -- ---- subframes by their numbers
 numbered : (s : Subframe) → within 1 4 (subframe-number s) ≡ true

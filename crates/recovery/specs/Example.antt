@@ -32,6 +32,7 @@ example =
     ∷ search (silent 4) 27
     ∷ reset
     ∷ search (silent 1) 0
+    ∷ search (silent 2) 27
     ∷ []
 
 -- the lags that the searches answer in subframes 1 and 3, and in 2 and 4
@@ -41,7 +42,8 @@ lag-82 = record { samples = 82; fraction = PlusThird }
 abbrev pub lag-85 : PitchLag
 lag-85 = record { samples = 85; fraction = PlusThird }
 
--- what happens: the damaged 5 in subframe 2 is read as 78, and subframes 3 and 4 are recovered after it
+-- what happens: the damaged 5 in subframe 2 is read as 78, and subframes 3 and 4 are recovered after it; the damaged 0 in subframe 1 is read as 19, and the
+-- intact 27 that directly follows it as 28 and not as 85
 unfoldable pub happens : List Event
 happens =
     at-place (record { subframe = 1; sent = record { lag = lag-82; index = 189 }; arrived = 189; reading = values lag-82 })
@@ -53,6 +55,7 @@ happens =
     ∷ at-place (record { subframe = 4; sent = record { lag = lag-85; index = 27 }; arrived = 27; reading = values lag-85 })
     ∷ made-fresh
     ∷ at-place (record { subframe = 1; sent = record { lag = lag-82; index = 189 }; arrived = 0; reading = values (record { samples = 19; fraction = PlusThird }) })
+    ∷ at-place (record { subframe = 2; sent = record { lag = lag-85; index = 27 }; arrived = 27; reading = values (record { samples = 28; fraction = PlusThird }) })
     ∷ []
 
 -- the example happens so, and meets both hypotheses

@@ -1,12 +1,11 @@
 use mathlib.Core.Path.{_≡_, refl, sym, ap, _∙_}
-use Prim.Native.Nat.{_≤_, _<_, _-_, _*_, _^_, min}
+use Prim.Native.Nat.{_≤_, _<_, _-_, _*_, _^_}
 use native.Mathlib.Omega.{arith}
 use native.Mathlib.Numerals.{add-one}
 use borrow.Author.Needs.{needs}
 use lib.IntN.{pos}
 use mir.Facts.{toZ-pos}
 use mir.Syntax.{w16, w32}
-use mir.Val.{toZ}
 use Rattle.fixed.proofs.Bounds.{got}
 use Rattle.fixed.proofs.Sums.{squares, energy-is}
 use Rattle.fixed.proofs.energy40.Statement.{statement}

@@ -1,13 +1,11 @@
 use Prim.Native.Nat.{_-_, _≤_, min}
-use Rattle.fixed.proofs.Bounds.{ok}
+use Rattle.fixed.proofs.Bounds.{ok, signed, fits-16-32, product-32, shift-fits}
 use mir.Syntax.{w16}
-use mathlib.Core.Path.{_∙_, sym}
+use mathlib.Core.Path.{_∙_}
 use native.Mathlib.Omega.{arith}
 use mir.Facts.{toZ-ofZ}
-use borrow.Author.Needs.{needs, sfits-of}
-use Rattle.fixed.proofs.Bounds.{signed, fits-16-32, product-32, shift-fits}
-use Rattle.fixed.proofs.Products.{product-high}
 use borrow.Author.Needs.{needs}
+use Rattle.fixed.proofs.Products.{product-high}
 use Rattle.fixed.proofs.product_high.Statement.{statement}
 use Rattle.fixed.proofs.product_high.Tie as tie
 

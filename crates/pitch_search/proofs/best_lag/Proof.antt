@@ -1,17 +1,10 @@
 use Rattle.fixed.specs.Lists.{at}
-use mathlib.Core.Bool.{true, false}
-use lib.Signed.{leZ}
-use Prim.Native.Nat.{suc}
-use mir.Val.{ofZ}
 use mathlib.Core.Path.{_≡_, refl}
 use Prim.Native.Nat.{_≤_, _<_, _-_, _+_}
 use native.Mathlib.Omega.{arith}
 use native.Mathlib.Numerals.{add-one}
 use borrow.Author.Needs.{needs}
-use lib.IntN.{pos}
-use lib.ListN.{length}
-use mir.Syntax.{w16, w32}
-use mir.Val.{toZ}
+use mir.Syntax.{w16}
 use Rattle.fixed.proofs.Bounds.{got}
 use Rattle.pitch_search.specs.Choices.{best-lag}
 use Rattle.pitch_search.proofs.best_lag.Statement.{statement}

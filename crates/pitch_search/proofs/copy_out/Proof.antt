@@ -1,16 +1,12 @@
-use mathlib.Core.Path.{sym, _∙_}
-use mir.Val.{ofZ}
-use mathlib.Core.Path.{_≡_, refl}
-use Prim.Native.Nat.{_≤_, _<_, _-_, _+_}
+use mathlib.Core.Path.{_∙_, _≡_, refl}
+use mir.Val.{ofZ, toZ}
+use Prim.Native.Nat.{_≤_, _-_}
 use native.Mathlib.Omega.{arith}
-use native.Mathlib.Numerals.{add-one}
 use borrow.Author.Needs.{needs}
 use lib.IntN.{pos}
-use lib.ListN.{length}
-use mir.Syntax.{w16, w32}
-use mir.Val.{toZ}
+use lib.ListN.{length, length-set}
+use mir.Syntax.{w16}
 use Rattle.fixed.proofs.Bounds.{got}
-use lib.ListN.{length-set}
 use lib.Seq.{ext-getD}
 use Rattle.fixed.specs.Lists.{at}
 use Rattle.fixed.proofs.Lists.{Filled, filled-more}

@@ -1,11 +1,10 @@
 use native.Mathlib.Nat.{le-refl}
-use lib.ListN.{replicate}
-use mathlib.Core.Path.{_≡_, refl, sym, _∙_, ap}
-use Prim.Native.Nat.{ℕ, zero, suc, _≤_, _<_, _+_, _-_}
+use lib.ListN.{replicate, length, length-set}
+use mathlib.Core.Path.{_≡_, refl, _∙_}
+use Prim.Native.Nat.{ℕ, suc, _≤_, _<_, _+_, _-_}
 use native.Mathlib.Omega.{arith}
 use borrow.Author.Needs.{needs}
 use lib.IntN.{ℤ, pos}
-use lib.ListN.{length, length-set}
 use mir.Syntax.{w16}
 use mir.Val.{toZ, ofZ}
 use Rattle.fixed.specs.Lists.{at}

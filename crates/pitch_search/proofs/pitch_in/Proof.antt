@@ -22,6 +22,9 @@ add-normalized-correlation c = search needs
 add-normalized-correlation-2 : tie.Need-add-normalized-correlation-2
 add-normalized-correlation-2 c = search needs
 
+add-normalized-correlation-3 : tie.Need-add-normalized-correlation-3
+add-normalized-correlation-3 c = search needs
+
 normalized-correlation-requires : tie.Need-normalized-correlation-requires
 normalized-correlation-requires c κs = search needs
 
@@ -58,6 +61,7 @@ pitch-in-spec =
     sub-normalized-correlation
     add-normalized-correlation
     add-normalized-correlation-2
+    add-normalized-correlation-3
     normalized-correlation-requires
     absolute-requires
     chosen-requires

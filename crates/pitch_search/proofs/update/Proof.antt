@@ -1,22 +1,15 @@
-use Rattle.fixed.specs.Operators.{add, extract-h, L-mult, L-shl}
 use Rattle.fixed.specs.Lists.{at}
 use Rattle.pitch_search.proofs.Filterings.{shift-held, update-suc}
-use Prim.Native.Nat.{ℕ, zero, suc}
-use lib.IntN.{ℤ}
+use Prim.Native.Nat.{ℕ, _≤_, _-_}
+use lib.IntN.{ℤ, pos}
 use mir.Facts.{toZ-ofZ}
-use mathlib.Core.Path.{sym, _∙_}
-use mir.Val.{ofZ}
-use mathlib.Core.Path.{_≡_, refl}
-use Prim.Native.Nat.{_≤_, _<_, _-_, _+_}
+use mathlib.Core.Path.{_∙_, _≡_, refl}
+use mir.Val.{ofZ, toZ}
 use native.Mathlib.Omega.{arith}
-use native.Mathlib.Numerals.{add-one}
 use borrow.Author.Needs.{needs}
-use lib.IntN.{pos}
-use lib.ListN.{length}
-use mir.Syntax.{w16, w32}
-use mir.Val.{toZ}
+use lib.ListN.{length, length-set}
+use mir.Syntax.{w16}
 use Rattle.fixed.proofs.Bounds.{got}
-use lib.ListN.{length-set}
 use Rattle.fixed.proofs.Lists.{Filled, filled-more, filled-all}
 use Rattle.pitch_search.specs.Correlations.{update-at, update}
 use Rattle.pitch_search.proofs.update.Statement.{statement}

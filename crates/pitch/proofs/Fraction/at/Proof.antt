@@ -1,7 +1,6 @@
 use mathlib.Core.Path.{_≡_}
 use Prim.Native.Nat.{_%_}
 use native.Mathlib.Omega.{arith}
-use Rattle.pitch.specs.Indexes.{by-remainder}
 use Rattle.pitch.proofs.Fraction.at.Statement.{statement}
 use Rattle.pitch.proofs.Fraction.at.Tie as tie
 

@@ -1,8 +1,7 @@
 use mathlib.Core.Path.{_≡_, sym, _∙_}
-use mathlib.Core.Bool.{true, false}
 use mathlib.Core.List.{[], _∷_}
 use borrow.Author.Tests.{le-leb, lt-leb, eq-eqb, ne-eqb}
-use Rattle.refusal.specs.Checks.{within, unless-refused, open-loop-lag, in-order}
+use Rattle.refusal.specs.Checks.{unless-refused, open-loop-lag, in-order}
 use Rattle.pitch.specs.Kinds.{subframe-number}
 use Rattle.pitch.proofs.LagChecks.{lag-taken, lag-refused}
 use Rattle.pitch_search.specs.Searches.{accepted, Pitch-fr}
