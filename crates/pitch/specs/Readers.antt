@@ -5,8 +5,7 @@ use Prim.Native.Nat.{ℕ}
 use lib.Dec.{leb}
 use lib.IntN.{pos}
 use Rattle.refusal.specs.Refused.{Told, values, turned-down}
-use Rattle.refusal.specs.Checks.{Check, Outcome, unless-refused, in-order}
-use Rattle.refusal.specs.Checks as checks
+use Rattle.refusal.specs.Checks.{Check, Outcome, unless-refused, known-subframe, in-order}
 use Rattle.pitch.specs.declared.Fraction.the-variants.{Zero}
 use Rattle.pitch.specs.declared.Subframe.{Subframe}
 use Rattle.pitch.specs.declared.Subframe.the-variants.{One}
@@ -21,6 +20,7 @@ use Rattle.pitch.specs.Indexes.{lag-of}
 abbrev pub fresh-lag : PitchLag
 fresh-lag = record { samples = 40; fraction = Zero }
 
+-- and the reader with it
 abbrev pub fresh-reader : Reader
 fresh-reader = record { previous = fresh-lag; next = One }
 
@@ -36,7 +36,7 @@ relative-index-fits s index = record { passes = absolute s || leb index 31; numb
 -- what a reading answers, and the reader after it
 unfoldable pub read : Reader → ℕ → ℕ → Outcome PitchLag Reader
 read r n index =
-    unless-refused (checks.subframe-number n ∷ in-order (subframe-number (r .next)) n ∷ relative-index-fits (r .next) index ∷ []) r
+    unless-refused (known-subframe n ∷ in-order (subframe-number (r .next)) n ∷ relative-index-fits (r .next) index ∷ []) r
     (record {
       answer = values (lag-of (r .next) (r .previous .samples) index);
       after = record { previous = lag-of (r .next) (r .previous .samples) index; next = following (r .next) };

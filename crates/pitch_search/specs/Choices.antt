@@ -23,16 +23,17 @@ interpolated-to cs place phase (suc n) =
     L-mac (L-mac (interpolated-to cs place phase n) (at cs (place - n)) (at interpolator (phase + 6 * n)))
     (at cs (place + 1 + n)) (at interpolator (6 - phase + 6 * n))
 
+-- Interpol_3or6 with all four pairs, rounded
 unfoldable pub Interpol-6 : List ℤ → ℕ → ℕ → ℤ
 Interpol-6 cs place phase = round (interpolated-to cs place phase 4)
 
--- Fractions −2 to 2 are the steps 0 to 4, two sixths each; one below 0 is seen from the place before.
+-- searchFrac: the fractions −2 to 2 are the steps 0 to 4, two sixths each; one below 0 is seen from the place before
 unfoldable pub step-value : List ℤ → ℕ → ℕ → ℤ
 step-value cs lag zero = Interpol-6 cs (lag - 1) 2
 step-value cs lag (suc zero) = Interpol-6 cs (lag - 1) 4
 step-value cs lag (suc (suc k)) = Interpol-6 cs lag (2 * k)
 
--- 'Larger lag wins a tie': the greatest of the n + 1 lags from start on
+-- Pitch_fr, 'Find integer pitch'; 01: 'Larger lag wins a tie'. The greatest of the n + 1 lags from start on
 unfoldable pub best-lag : List ℤ → ℕ → ℕ → ℕ
 best-lag cs start zero = start
 best-lag cs start (suc n) = cond (leZ (at cs (best-lag cs start n)) (at cs (start + suc n))) (start + suc n) (best-lag cs start n)
@@ -54,5 +55,6 @@ settled lag (suc (suc (suc (suc k)))) = record { samples = lag + 1; fraction = M
 abbrev pub step-of : Bool → List ℤ → ℕ → ℕ
 step-of absolute cs lag = cond (absolute && ltb 84 lag) 2 (best-step cs lag 4)
 
+-- Pitch_fr: the whole lag, then the fraction
 unfoldable pub chosen : Bool → List ℤ → ℕ → ℕ → PitchLag
 chosen absolute cs start span = let lag = best-lag cs start span in settled lag (step-of absolute cs lag)

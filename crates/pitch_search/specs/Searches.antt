@@ -4,8 +4,7 @@ use mathlib.Core.List.{List, [], _∷_}
 use Prim.Native.Nat.{ℕ, _+_, _-_}
 use lib.IntN.{ℤ}
 use Rattle.refusal.specs.Refused.{Told, values, turned-down}
-use Rattle.refusal.specs.Checks.{Check, Outcome, unless-refused, length-is, open-loop-lag, in-order}
-use Rattle.refusal.specs.Checks as checks
+use Rattle.refusal.specs.Checks.{Check, Outcome, unless-refused, length-is, known-subframe, open-loop-lag, in-order}
 use Rattle.pitch.specs.declared.Subframe.{Subframe}
 use Rattle.pitch.specs.declared.Subframe.the-variants.{One, Two, Three, Four}
 use Rattle.pitch.specs.declared.PitchLag.{PitchLag}
@@ -45,7 +44,7 @@ unfoldable pub pitch-in : Subframe → ℕ → List ℤ → List ℤ → List �
 pitch-in s start exc target hs =
     chosen (absolute s) (correlations exc target hs (start - 4) (start + span-of s + 4 + 1)) start (span-of s)
 
--- an accepted search
+-- what is answered and kept for a chosen lag
 abbrev pub found-at : Search → ℕ → PitchLag → Outcome SearchedPitch Search
 found-at s start l =
     record {
@@ -53,6 +52,7 @@ found-at s start l =
       after = record { previous = l; next = following (s .next) };
     }
 
+-- a search that the checks let through
 abbrev pub accepted : Search → List ℤ → List ℤ → List ℤ → ℕ → ℕ → Outcome SearchedPitch Search
 accepted s exc target hs first second =
     let start = start-of (s .next) (s .previous .samples) first second in
@@ -61,9 +61,10 @@ accepted s exc target hs first second =
 -- 01, numbers 1 to 4 in checking order
 abbrev pub search-checks : Search → List ℤ → List ℤ → List ℤ → ℕ → ℕ → ℕ → List Check
 search-checks s exc target hs first second n =
-    length-is 194 exc ∷ length-is 40 target ∷ length-is 40 hs ∷ checks.subframe-number n ∷ open-loop-lag first ∷ open-loop-lag second
+    length-is 194 exc ∷ length-is 40 target ∷ length-is 40 hs ∷ known-subframe n ∷ open-loop-lag first ∷ open-loop-lag second
     ∷ in-order (subframe-number (s .next)) n ∷ []
 
+-- Pitch_fr behind 01's checks: the answer, and the searcher after it
 unfoldable pub Pitch-fr : Search → List ℤ → List ℤ → List ℤ → ℕ → ℕ → ℕ → Outcome SearchedPitch Search
 Pitch-fr s exc target hs first second n =
     unless-refused (search-checks s exc target hs first second n) s (accepted s exc target hs first second)

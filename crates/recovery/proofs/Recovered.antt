@@ -11,8 +11,7 @@ use lib.IntN.{ℤ}
 use borrow.Author.Tests.{le-leb, eq-eqb, eqb-true, leb-true}
 use Rattle.fixed.proofs.Clips.{contradiction}
 use Rattle.refusal.specs.Refused.{Told, values, refused}
-use Rattle.refusal.specs.Checks.{Check, Outcome, within, in-order}
-use Rattle.refusal.specs.Checks as checks
+use Rattle.refusal.specs.Checks.{Check, Outcome, within, in-order, known-subframe}
 use Rattle.refusal.proofs.Checkings.{Passes, accepts, passed, passes, failed, kept}
 use Rattle.pitch.specs.declared.Subframe.{Subframe}
 use Rattle.pitch.specs.declared.Subframe.the-variants.{One, Two, Three, Four}
@@ -75,7 +74,7 @@ left-by r i s =
 taken : (r : Reader) (n i : ℕ) → n ≡ subframe-number (r .next) → i ≤ cond (absolute (r .next)) 255 31 → read r n i ≡ left-by r i (r .next)
 unfolding read
 taken r n i e w =
-    passed r _ (checks.subframe-number n ∷ in-order (subframe-number (r .next)) n ∷ relative-index-fits (r .next) i ∷ []) (rw e (numbered (r .next)), (eq-eqb n (subframe-number (r .next)) e, (fits (absolute (r .next)) w, tt)))
+    passed r _ (known-subframe n ∷ in-order (subframe-number (r .next)) n ∷ relative-index-fits (r .next) i ∷ []) (rw e (numbered (r .next)), (eq-eqb n (subframe-number (r .next)) e, (fits (absolute (r .next)) w, tt)))
   where
     fits : (t : Bool) → i ≤ cond t 255 31 → (t || leb i 31) ≡ true
     fits true h = refl
@@ -85,14 +84,14 @@ taken r n i e w =
 turned-away : (r : Reader) (n i : ℕ) → (n ≡ subframe-number (r .next) → ⊥) ⊎ (((n ≡ 2) ⊎ (n ≡ 4)) × (31 < i)) →
     (accepts (read r n i .answer) ≡ false) × (read r n i .after ≡ r)
 unfolding read
-turned-away r n i h = failed r _ (checks.subframe-number n ∷ in-order (subframe-number (r .next)) n ∷ relative-index-fits (r .next) i ∷ []) (no h)
+turned-away r n i h = failed r _ (known-subframe n ∷ in-order (subframe-number (r .next)) n ∷ relative-index-fits (r .next) i ∷ []) (no h)
   where
     above : (t : Bool) → t ≡ false → (t || leb i 31) ≡ true → i ≤ 31
     above true q e = contradiction (sym q)
     above false q e = leb-true i 31 e
 
     no : (n ≡ subframe-number (r .next) → ⊥) ⊎ (((n ≡ 2) ⊎ (n ≡ 4)) × (31 < i)) →
-        Passes (checks.subframe-number n ∷ in-order (subframe-number (r .next)) n ∷ relative-index-fits (r .next) i ∷ []) → ⊥
+        Passes (known-subframe n ∷ in-order (subframe-number (r .next)) n ∷ relative-index-fits (r .next) i ∷ []) → ⊥
     no (inl d) (a, (b, (c, u))) = d (eqb-true n (subframe-number (r .next)) b)
     no (inr (m, l)) (a, (b, (c, u))) =
         let e = eqb-true n (subframe-number (r .next)) b in

@@ -7,6 +7,7 @@ use lib.IntN.{ℤ, pos}
 use lib.ListN.{length}
 use Rattle.refusal.specs.Refused.{Told, refused}
 
+-- one check: whether it passes, and the number and detail of its refusal
 pub record Check : Type 0 where
   pub passes : Bool
   pub number : ℕ
@@ -26,6 +27,7 @@ pub record Outcome (A S : Type 0) : Type 0 where
 abbrev pub unless-refused : {A S : Type 0} → List Check → S → Outcome A S → Outcome A S
 unless-refused cs state accepted = checked cs (λ n d. record { answer = refused n d; after = state }) accepted
 
+-- low to high, both included
 abbrev pub within : ℕ → ℕ → ℕ → Bool
 within low high n = leb low n && leb n high
 
@@ -34,8 +36,8 @@ abbrev pub length-is : ℕ → List ℤ → Check
 length-is n xs = record { passes = eqb (length xs) n; number = 1; detail = pos (length xs) }
 
 -- number 2: a subframe number is 1 to 4
-abbrev pub subframe-number : ℕ → Check
-subframe-number n = record { passes = within 1 4 n; number = 2; detail = pos n }
+abbrev pub known-subframe : ℕ → Check
+known-subframe n = record { passes = within 1 4 n; number = 2; detail = pos n }
 
 -- number 3: an open-loop lag is 20 to 143
 abbrev pub open-loop-lag : ℕ → Check
