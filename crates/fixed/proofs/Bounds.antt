@@ -18,7 +18,7 @@ mag-abs (pos n) = le-refl n
 mag-abs (negsuc n) = omega arith
 
 -- what holds of both arms of a test holds of what it picks
-pub either : (P : ℤ → Type 0) (c : Bool) (x y : ℤ) → P x → P y → P (cond c x y)
+pub either : {A : Type 0} (P : A → Type 0) (c : Bool) (x y : A) → P x → P y → P (cond c x y)
 either P true x y h g = h
 either P false x y h g = g
 

@@ -10,6 +10,7 @@ use lib.IntN.{ℤ}
 use lib.Signed.{ltZ, leZ}
 use borrow.Author.Tests.{ltb-true, ltb-false}
 use Rattle.fixed.specs.Lists.{at}
+use Rattle.fixed.proofs.Bounds.{either}
 use Rattle.pitch.specs.declared.Fraction.the-variants.{MinusThird, Zero}
 use Rattle.pitch.specs.declared.Subframe.{Subframe}
 use Rattle.pitch.specs.declared.Subframe.the-variants.{One, Two, Three, Four}
@@ -40,11 +41,6 @@ settled-last lag (suc zero) h = absurd (omega arith)
 settled-last lag (suc (suc zero)) h = absurd (omega arith)
 settled-last lag (suc (suc (suc zero))) h = absurd (omega arith)
 settled-last lag (suc (suc (suc (suc k)))) h = refl
-
--- what holds of both arms of a test holds of what it picks
-either : (P : ℕ → Type 0) (t : Bool) (x y : ℕ) → P x → P y → P (cond t x y)
-either P true x y h g = h
-either P false x y h g = g
 
 module _ (cs : List ℤ) where
   pub best-lag-in : (start n : ℕ) → (start ≤ best-lag cs start n) × (best-lag cs start n ≤ start + n)
