@@ -1,7 +1,7 @@
 -- Searcher, reader and the answers of the closed loop as the structs that cross to Rust and C.
 use Prim.Native.Nat.{ℕ, zero, suc}
 use lib.IntN.{ℤ, pos, negsuc}
-use Rattle.refusal.specs.Refused.{Told, values, refused, sign-magnitude}
+use Rattle.refusal.specs.Refused.{Told, values, refused, put, sign-magnitude}
 use Rattle.refusal.specs.Checks.{Outcome}
 use Rattle.pitch.specs.declared.Fraction.{Fraction}
 use Rattle.pitch.specs.declared.Fraction.the-variants.{MinusThird, Zero, PlusThird}
@@ -79,17 +79,15 @@ abbrev pub told-pitch : Told SearchedPitch → PitchLag → Subframe → PitchAn
 told-pitch (values p) previous next = accepted-pitch (p .index) (p .lag) previous next
 told-pitch (refused n d) previous next = refused-pitch n d previous next
 
+-- `pitch_search`'s
 unfoldable pub pitch-answer : Outcome SearchedPitch Search → PitchAnswer
 pitch-answer o = told-pitch (o .answer) (o .after .previous) (o .after .next)
 
--- a reading has no index of its own
-abbrev pub told-lag : Told PitchLag → PitchLag → Subframe → PitchAnswer
-told-lag (values l) previous next = accepted-pitch 0 l previous next
-told-lag (refused n d) previous next = refused-pitch n d previous next
-
+-- `read_lag`'s: a reading has no index of its own, so 0 stands for it
 unfoldable pub reading-answer : Outcome PitchLag Reader → PitchAnswer
-reading-answer o = told-lag (o .answer) (o .after .previous) (o .after .next)
+reading-answer o = told-pitch (put (λ l. record { lag = l; index = 0 }) (o .answer)) (o .after .previous) (o .after .next)
 
+-- `convolve`'s
 abbrev pub length-answer : Told (Unit {0}) → LengthAnswer
 length-answer (values u) = record { number = 0; magnitude = 0 }
 length-answer (refused n d) = record { number = n; magnitude = sign-magnitude d .magnitude }

@@ -23,6 +23,7 @@ by-remainder zero = PlusThird
 by-remainder (suc zero) = MinusThird
 by-remainder (suc (suc n)) = Zero
 
+-- and so of the index
 abbrev pub fraction-at : ℕ → Fraction
 fraction-at index = by-remainder (index % 3)
 

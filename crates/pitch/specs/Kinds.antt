@@ -24,6 +24,7 @@ from-zero MinusThird = 0
 from-zero Zero = 1
 from-zero PlusThird = 2
 
+-- 01: 'A subframe number', 1 to 4
 abbrev pub subframe-number : Subframe → ℕ
 subframe-number One = 1
 subframe-number Two = 2

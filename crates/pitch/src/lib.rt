@@ -17,6 +17,13 @@ const FRACTIONAL_LAG_BASE: u16 = 19;
 
 const MAX_DELTA_INDEX: u8 = 31;
 
+const INTEGER_ENCODING_LIMIT: u32 = 85;
+
+const INTEGER_INDEX_BIAS: u32 = 112;
+
+// 58, and 1 since the fraction is counted from 0.
+const ABSOLUTE_INDEX_BIAS: u32 = 59;
+
 // Thirds of a sample.
 pub enum Fraction {
     MinusThird,
@@ -195,15 +202,15 @@ impl PitchLag {
         ensures { λ r. ⌜ r ≡ absolute-index self ⌝ }
     {
         let samples = self.samples as u32;
-        if 85 < samples {
-            return samples + 112;
+        if INTEGER_ENCODING_LIMIT < samples {
+            return samples + INTEGER_INDEX_BIAS;
         }
         let fraction = self.fraction;
         let place = 3 * samples + fraction.from_zero();
-        if place < 59 {
+        if place < ABSOLUTE_INDEX_BIAS {
             return 0;
         }
-        place - 59
+        place - ABSOLUTE_INDEX_BIAS
     }
 
     // TS 26.073 Enc_lag3, subframes two and four.

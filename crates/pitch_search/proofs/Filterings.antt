@@ -1,4 +1,4 @@
--- The filtered lists: one word of an update, and a list of correlations that is filled lag by lag.
+-- Loops that fill a list: the words of an update, the correlations lag by lag, Convolve's sums side by side.
 use mathlib.Core.Path.{_≡_, refl, ap, sym, _∙_}
 use mathlib.Core.Bool.{Bool, true, false, cond, _&&_}
 use mathlib.Core.List.{List}
@@ -13,7 +13,7 @@ use Rattle.fixed.specs.Operators.{add, L-mult, L-mac, L-shl, extract-h}
 use Rattle.fixed.specs.Lists.{at, L-sum}
 use Rattle.fixed.proofs.Lists.{Filled, filled-all}
 use Rattle.pitch_search.specs.Filters.{products-to}
-use Rattle.pitch_search.specs.Correlations.{forty, update-at}
+use Rattle.pitch_search.specs.Correlations.{forty, update-at, between}
 
 -- 40 words from place 0 of a list of 40 are the list
 pub forty-whole : (xs : List ℤ) → length xs ≡ 40 → forty xs 0 ≡ xs
@@ -35,15 +35,12 @@ update-suc l hs sample fs (suc j) h =
     let e : j ≡ suc j - 1 = omega arith in
     ap (λ (k : ℕ). add (extract-h (L-shl (L-mult sample (at hs (suc j))) (pos (cond l 1 3)))) (at fs k)) e
 
--- ---- a list that is filled place by place from `low` on: g where it is filled, d elsewhere
-abbrev pub among : (ℕ → ℤ) → (ℕ → ℤ) → ℕ → ℕ → ℕ → ℤ
-among g d low end k = cond (leb low k && ltb k end) (g k) (d k)
-
+-- ---- a list that is filled place by place from `low` on
 -- nothing is placed yet
-pub none-placed : (g d : ℕ → ℤ) (low n : ℕ) (xs : List ℤ) → Filled d (pos 0) n xs → Filled (among g d low low) (pos 0) n xs
+pub none-placed : (g d : ℕ → ℤ) (low n : ℕ) (xs : List ℤ) → Filled d (pos 0) n xs → Filled (between g d low low) (pos 0) n xs
 none-placed g d low n xs p k h = p k h ∙ go (leb low k) refl
   where
-    go : (t : Bool) → leb low k ≡ t → d k ≡ among g d low low k
+    go : (t : Bool) → leb low k ≡ t → d k ≡ between g d low low k
     go true q = rw (q, le-ltb k low (leb-true low k q))
     go false q = rw q
 
@@ -51,7 +48,7 @@ pub zeros : (n : ℕ) → Filled (λ k. pos 0) (pos 0) n (replicate n (pos 0))
 zeros n k h = getD-replicate n k (pos 0) (pos 0) h
 
 -- the place at the end is not filled yet
-pub at-end : (g d : ℕ → ℤ) (low m : ℕ) → among g d low m m ≡ d m
+pub at-end : (g d : ℕ → ℤ) (low m : ℕ) → between g d low m m ≡ d m
 at-end g d low m = go (leb low m)
   where
     go : (t : Bool) → cond (t && ltb m m) (g m) (d m) ≡ d m
@@ -60,7 +57,7 @@ at-end g d low m = go (leb low m)
 
 -- one place more
 pub placed-more : (g d : ℕ → ℤ) (low m n : ℕ) (xs : List ℤ) (v : ℤ) → low ≤ m → m < length xs → v ≡ g m →
-    Filled (among g d low m) (pos 0) n xs → Filled (among g d low (m + 1)) (pos 0) n (set xs m v)
+    Filled (between g d low m) (pos 0) n xs → Filled (between g d low (m + 1)) (pos 0) n (set xs m v)
 placed-more g d low m n xs v h l e p k b = go (eqb k m) refl
   where
     -- the end moves past m alone
@@ -68,7 +65,7 @@ placed-more g d low m n xs v h l e p k b = go (eqb k m) refl
     moved true q o = q ∙ sym (lt-ltb k (m + 1) (omega (arith, ltb-true k m q)))
     moved false q o = q ∙ sym (le-ltb k (m + 1) (omega (arith, ltb-false k m q, o)))
 
-    go : (t : Bool) → eqb k m ≡ t → getD (set xs m v) k (pos 0) ≡ among g d low (m + 1) k
+    go : (t : Bool) → eqb k m ≡ t → getD (set xs m v) k (pos 0) ≡ between g d low (m + 1) k
     go true q = rw (eqb-true k m q, le-leb low m h, lt-ltb m (m + 1) (omega arith)) (getD-set-same xs m v (pos 0) l ∙ e)
     go false q =
         let o = eqb-false k m q in
@@ -92,10 +89,10 @@ module _ (xs hs : List ℤ) where
       rw (a, b)
 
   -- and at a place that it does not
-  pub row-done : (i : ℕ) (ss : List ℤ) → Filled (among (taken-in (i + 1)) (taken-in i) i 40) (pos 0) 40 ss → Filled (taken-in (i + 1)) (pos 0) 40 ss
+  pub row-done : (i : ℕ) (ss : List ℤ) → Filled (between (taken-in (i + 1)) (taken-in i) i 40) (pos 0) 40 ss → Filled (taken-in (i + 1)) (pos 0) 40 ss
   row-done i ss p k h = p k h ∙ go (leb i k) refl
     where
-      go : (t : Bool) → leb i k ≡ t → among (taken-in (i + 1)) (taken-in i) i 40 k ≡ taken-in (i + 1) k
+      go : (t : Bool) → leb i k ≡ t → between (taken-in (i + 1)) (taken-in i) i 40 k ≡ taken-in (i + 1) k
       go true q = rw (q, lt-ltb k 40 h)
       go false q =
           let l = leb-false i k q in

@@ -44,9 +44,9 @@ filtered l exc hs low fs (suc k) = update l hs (at exc (154 - (low + suc k))) (f
 unfoldable pub normalized : List ℤ → List ℤ → ℤ
 normalized target fs = extract-h (L-shl (Mpy-32 (dot fs target 40) (Inv-sqrt (dot fs fs 40))) (pos 16))
 
--- g of each lag from low up to, and without, end; 0 of every other
-abbrev pub between : (ℕ → ℤ) → ℕ → ℕ → ℕ → ℤ
-between g low end lag = cond (leb low lag && ltb lag end) (g lag) (pos 0)
+-- g of each place from low up to, and without, end; d of every other
+abbrev pub between : (ℕ → ℤ) → (ℕ → ℤ) → ℕ → ℕ → ℕ → ℤ
+between g d low end k = cond (leb low k && ltb k end) (g k) (d k)
 
 -- Norm_Corr, corr_norm[lag]
 unfoldable pub correlation-at : Bool → List ℤ → List ℤ → List ℤ → ℕ → List ℤ → ℕ → ℤ
@@ -54,7 +54,7 @@ correlation-at l exc target hs low first lag = normalized target (filtered l exc
 
 -- 01: 'places 16..147 of a list of 148', by the lag
 unfoldable pub correlations-from : List ℤ → List ℤ → List ℤ → List ℤ → ℕ → ℕ → List ℤ
-correlations-from first exc target hs low end = tabulate (between (correlation-at (loud first) exc target hs low first) low end) 148
+correlations-from first exc target hs low end = tabulate (between (correlation-at (loud first) exc target hs low first) (λ k. pos 0) low end) 148
 
 -- Norm_Corr from its start: the excitation's subframe starts at place 154, and the first lag's words `low` places before it
 unfoldable pub correlations : List ℤ → List ℤ → List ℤ → ℕ → ℕ → List ℤ

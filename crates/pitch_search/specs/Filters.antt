@@ -17,6 +17,7 @@ products-to xs hs n m = L-sum (pos 0) (λ i. L-mult (at xs i) (at hs (n - i))) m
 unfoldable pub convolved-at : List ℤ → List ℤ → ℕ → ℤ
 convolved-at xs hs n = extract-h (L-shl (products-to xs hs n (suc n)) (pos 3))
 
+-- TS 26.073 Convolve
 unfoldable pub Convolve : List ℤ → List ℤ → List ℤ
 Convolve xs hs = tabulate (convolved-at xs hs) 40
 

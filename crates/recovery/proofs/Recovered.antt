@@ -10,9 +10,9 @@ use lib.Dec.{leb}
 use lib.IntN.{ℤ}
 use borrow.Author.Tests.{le-leb, eq-eqb, eqb-true, leb-true}
 use Rattle.fixed.proofs.Clips.{contradiction}
-use Rattle.refusal.specs.Refused.{Told, values, refused}
+use Rattle.refusal.specs.Refused.{Told, values, refused, accepts}
 use Rattle.refusal.specs.Checks.{Check, Outcome, within, in-order, known-subframe}
-use Rattle.refusal.proofs.Checkings.{Passes, accepts, passed, passes, failed, kept}
+use Rattle.refusal.proofs.Checkings.{Passes, value-or, passed, passes, failed, kept}
 use Rattle.pitch.specs.declared.Subframe.{Subframe}
 use Rattle.pitch.specs.declared.Subframe.the-variants.{One, Two, Three, Four}
 use Rattle.pitch.specs.declared.PitchLag.{PitchLag}
@@ -25,7 +25,7 @@ use Rattle.pitch_search.specs.declared.SearchedPitch.{SearchedPitch}
 use Rattle.pitch_search.specs.Searches.{accepted, search-checks, Pitch-fr}
 use Rattle.pitch_search.proofs.Choosings.{sent-back}
 use Rattle.recovery.specs.Runs.{Input, Entry, search, reset, stray, State, fresh-state, Event, Step, answered, searched, step, run}
-use Rattle.recovery.specs.Statement.{Last, none, last, last-after, due, one-or-three, Follows-intact, Within-width, Stray, Is-refused, Recovers, Each, Recovery}
+use Rattle.recovery.specs.Statement.{Last, none, last, last-after, due, one-or-three, Follows-intact, Within-width, Stray, Recovers, Each, Recovery}
 
 -- ---- subframes by their numbers
 numbered : (s : Subframe) → within 1 4 (subframe-number s) ≡ true
@@ -62,7 +62,6 @@ two-or-four Three (inr e) = absurd (omega arith)
 two-or-four Four e = refl
 
 -- ---- the reader
--- a reading of the expected subframe, with an index within its width
 -- what a reading in subframe s after the lag of r leaves
 abbrev left-by : Reader → ℕ → Subframe → Outcome PitchLag Reader
 left-by r i s =
@@ -71,6 +70,7 @@ left-by r i s =
       after = record { previous = lag-of s (r .previous .samples) i; next = following s };
     }
 
+-- a reading of the expected subframe, with an index within its width
 taken : (r : Reader) (n i : ℕ) → n ≡ subframe-number (r .next) → i ≤ cond (absolute (r .next)) 255 31 → read r n i ≡ left-by r i (r .next)
 unfolding read
 taken r n i e w =
@@ -98,10 +98,6 @@ turned-away r n i h = failed r _ (known-subframe n ∷ in-order (subframe-number
         let o = two-or-four (r .next) (rw e at m) in
         absurd (omega (arith, above (absolute (r .next)) o c))
 
-refused-is : (a : Told PitchLag) → accepts a ≡ false → Is-refused a
-refused-is (values l) e = contradiction (sym e)
-refused-is (refused n d) e = tt
-
 -- an absolute index is read without the lag before
 without-previous : (s : Subframe) (a b i : ℕ) → absolute s ≡ true → lag-of s a i ≡ lag-of s b i
 without-previous s a b i t = rw t
@@ -125,11 +121,6 @@ module _ (s : Search) (x : Input) where
   unchanged : accepts (searched s x .answer) ≡ false → searched s x .after ≡ s
   unfolding Pitch-fr
   unchanged e = kept s let-through checked refl e
-
--- what an answer answers, if it does
-abbrev value-or : SearchedPitch → Told SearchedPitch → SearchedPitch
-value-or q (values p) = p
-value-or q (refused n d) = q
 
 -- ---- the invariant
 pub record In-step (σ : State) (m : Last) : Type 0 where
@@ -203,7 +194,7 @@ module _ (σ : State) (m : Last) (inv : In-step σ m) (x : Input) (i : ℕ) wher
 
     placed : Keeps m (answered σ (x .subframe) i (searched s x .after) (values p))
     placed = (
-      (rw reading tt, λ e c. ap (λ (o : Outcome PitchLag Reader). o .answer) reading ∙ ap values (read-back e (holds-it c))),
+      (rw reading, λ e c. ap (λ (o : Outcome PitchLag Reader). o .answer) reading ∙ ap values (read-back e (holds-it c))),
       rw (outcome, reading) (stepped (left-by r i (s .next) .answer)),
     )
 
@@ -222,7 +213,7 @@ keeps σ m (search x i) inv w t = searching σ m inv x i (searched (σ .searcher
 keeps σ m reset inv w t = (refl, fresh-in-step)
 keeps σ m (stray n i) inv w t =
     let a = turned-away (σ .reader) n i (rw (← (inv .is-due), ← (inv .same)) at t) in
-    ((refused-is (read (σ .reader) n i .answer) (a .0), rw (a .1)), rw (a .1) inv)
+    ((a .0, rw (a .1)), rw (a .1) inv)
 
 all : (σ : State) (m : Last) (es : List Entry) → In-step σ m → Each Within-width m (run σ es) → Each Stray m (run σ es) → Each Recovers m (run σ es)
 unfolding run

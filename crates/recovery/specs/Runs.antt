@@ -29,10 +29,12 @@ pub data Entry : Type 0 where
   -- a reading of a subframe number and an index
   stray : ℕ → ℕ → Entry
 
+-- searcher and reader, as the last entry left them
 pub record State : Type 0 where
   pub searcher : Search
   pub reader : Reader
 
+-- at the start, and after a reset
 abbrev pub fresh-state : State
 fresh-state = record { searcher = fresh-search; reader = fresh-reader }
 

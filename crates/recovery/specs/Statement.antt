@@ -1,12 +1,11 @@
 -- Demand 3: one statement on a list of any length.
 use mathlib.Core.Path.{_≡_}
-use mathlib.Core.Bool.{Bool, true, cond, _||_}
+use mathlib.Core.Bool.{Bool, true, false, cond, _||_}
 use mathlib.Core.List.{List, [], _∷_}
 use mathlib.Core.Logic.{_⊎_}
 use Prim.Native.Nat.{ℕ, _+_, _%_, _≤_, _<_}
 use lib.Dec.{eqb}
-use Rattle.refusal.specs.Refused.{Told, values, refused}
-use Rattle.pitch.specs.declared.PitchLag.{PitchLag}
+use Rattle.refusal.specs.Refused.{values, accepts}
 use Rattle.recovery.specs.Runs.{Entry, Place, Event, at-place, search-refused, made-fresh, strayed, Step, State, fresh-state, run}
 
 -- the last place with no reset after it
@@ -14,6 +13,7 @@ pub data Last : Type 0 where
   none : Last
   last : Place → Last
 
+-- and after an event
 abbrev pub last-after : Last → Event → Last
 last-after m (at-place p) = last p
 last-after m (search-refused n d) = m
@@ -53,22 +53,14 @@ Stray m σ (search-refused n d) τ = Unit {0}
 Stray m σ made-fresh τ = Unit {0}
 Stray m σ (strayed n i r) τ = (n ≡ due m → ⊥) ⊎ (((n ≡ 2) ⊎ (n ≡ 4)) × (31 < i))
 
-abbrev pub Answers : Told PitchLag → Type 0
-Answers (values l) = Unit {0}
-Answers (refused n d) = ⊥
-
-abbrev pub Is-refused : Told PitchLag → Type 0
-Is-refused (values l) = ⊥
-Is-refused (refused n d) = Unit {0}
-
 -- a place: the reader answers, and it answers the search's whole lag and fraction where the index is intact and the place is subframe one or three or
 -- directly follows an intact one. A refused search hands it nothing, a stray reading is refused, and both change nothing.
 abbrev pub Recovers : Last → State → Event → State → Type 0
 Recovers m σ (at-place p) τ =
-    Answers (p .reading) × (Intact p → (one-or-three (p .subframe) ≡ true) ⊎ Follows-intact m → p .reading ≡ values (p .sent .lag))
+    (accepts (p .reading) ≡ true) × (Intact p → (one-or-three (p .subframe) ≡ true) ⊎ Follows-intact m → p .reading ≡ values (p .sent .lag))
 Recovers m σ (search-refused n d) τ = τ ≡ σ
 Recovers m σ made-fresh τ = τ ≡ fresh-state
-Recovers m σ (strayed n i r) τ = Is-refused r × (τ ≡ σ)
+Recovers m σ (strayed n i r) τ = (accepts r ≡ false) × (τ ≡ σ)
 
 -- of every event of a run
 abbrev pub Each : (Last → State → Event → State → Type 0) → Last → List Step → Type 0

@@ -3,17 +3,17 @@ use mathlib.Core.Path.{_≡_, refl, sym, ap, _∙_}
 use mathlib.Core.Bool.{Bool, true, false}
 use mathlib.Core.List.{List, [], _∷_}
 use Rattle.fixed.proofs.Clips.{contradiction}
-use Rattle.refusal.specs.Refused.{Told, values, refused}
+use Rattle.refusal.specs.Refused.{Told, values, refused, accepts}
 use Rattle.refusal.specs.Checks.{Check, Outcome, unless-refused}
 
 abbrev pub Passes : List Check → Type 0
 Passes [] = Unit {0}
 Passes (c ∷ cs) = (c .passes ≡ true) × Passes cs
 
--- whether an answer has values
-abbrev pub accepts : {A : Type 0} → Told A → Bool
-accepts (values a) = true
-accepts (refused n d) = false
+-- the values of an answer, or a where it has none
+abbrev pub value-or : {A : Type 0} → A → Told A → A
+value-or a (values b) = b
+value-or a (refused n d) = a
 
 module _ {A S : Type 0} (s : S) (a : Outcome A S) where
   -- all pass: what is accepted

@@ -1,5 +1,5 @@
 -- 01, 'What is turned down': the number and the detail of each case. Every contract that speaks of a refusal speaks through these.
-use mathlib.Core.Bool.{true, false}
+use mathlib.Core.Bool.{Bool, true, false}
 use Prim.Native.Nat.{ℕ, suc}
 use lib.IntN.{ℤ, pos, negsuc}
 use Rattle.refusal.specs.declared.Refusal.{Refusal}
@@ -47,6 +47,11 @@ sign-magnitude (negsuc n) = record { negative = true; magnitude = suc n }
 pub data Told (A : Type 0) : Type 0 where
   values : A → Told A
   refused : ℕ → ℤ → Told A
+
+-- whether an answer has values
+abbrev pub accepts : {A : Type 0} → Told A → Bool
+accepts (values a) = true
+accepts (refused n d) = false
 
 -- a refusal so told
 abbrev pub turned-down : {A : Type 0} → Refusal → Told A

@@ -10,12 +10,13 @@ use Rattle.fixed.proofs.Bounds.{got}
 use Rattle.fixed.specs.Lists.{at}
 use Rattle.fixed.proofs.Lists.{Filled, filled-all}
 use Rattle.pitch_search.specs.Filters.{products-to}
-use Rattle.pitch_search.proofs.Filterings.{among, none-placed, at-end, placed-more, taken-in, none-taken, term-more, row-done, all-taken}
+use Rattle.pitch_search.specs.Correlations.{between}
+use Rattle.pitch_search.proofs.Filterings.{none-placed, at-end, placed-more, taken-in, none-taken, term-more, row-done, all-taken}
 use Rattle.pitch_search.proofs.convolution_sums.Statement.{statement}
 use Rattle.pitch_search.proofs.convolution_sums.Tie as tie
 
 abbrev Inv-loop2 : tie.InvT-loop2
-Inv-loop2 input impulse sums₀ i n₀ sums n = (i < 40) × (i ≤ n) × (n ≤ 40) × (length sums ≡ 40) × Filled (among (taken-in input impulse (i + 1)) (taken-in input impulse i) i n) (pos 0) 40 sums
+Inv-loop2 input impulse sums₀ i n₀ sums n = (i < 40) × (i ≤ n) × (n ≤ 40) × (length sums ≡ 40) × Filled (between (taken-in input impulse (i + 1)) (taken-in input impulse i) i n) (pos 0) 40 sums
 
 abbrev μ-loop2 : tie.MeasureT-loop2
 μ-loop2 input impulse sums₀ i n₀ sums n = 40 - n

@@ -26,7 +26,7 @@ Inv-loop first excitation target impulse low end roots loud filtered₀ correlat
     × (loud ≡ Rattle.pitch_search.specs.Correlations.loud first)
     × (filtered ≡ Rattle.pitch_search.specs.Correlations.filtered loud excitation impulse low first (next - 1 - low))
     × (length correlation ≡ 148)
-    × Filled (between (correlation-at loud excitation target impulse low first) low next) (pos 0) 148 correlation
+    × Filled (between (correlation-at loud excitation target impulse low first) (λ k. pos 0) low next) (pos 0) 148 correlation
 
 abbrev μ-loop : tie.MeasureT-loop
 μ-loop first excitation target impulse low end roots loud filtered₀ correlation₀ next₀ filtered correlation next = end - next
@@ -141,7 +141,7 @@ returns c =
     let l = s .before .before .before .before .before .is-loud .result in
     let g : ℕ → ℤ = correlation-at l (a .excitation .now) (a .target .now) (a .impulse .now) (a .low) (a .first .now) in
     let e : s .loop .next ≡ a .end = omega arith in
-    rw (← (s .loop .inv .5)) (filled-all (between g (a .low) (a .end)) (pos 0) 148 (s .loop .correlation) (s .loop .inv .7) (rw e at (s .loop .inv .8)))
+    rw (← (s .loop .inv .5)) (filled-all (between g (λ k. pos 0) (a .low) (a .end)) (pos 0) 148 (s .loop .correlation) (s .loop .inv .7) (rw e at (s .loop .inv .8)))
 
 pub correlated-spec : {M : Type 1} → statement M
 correlated-spec =
