@@ -8,5 +8,6 @@ pub mod Lines
 pub mod Tables
 pub mod Lists
 pub mod Sums
+pub mod Choices
 pub mod Products
 pub mod LowBits

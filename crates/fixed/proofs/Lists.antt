@@ -1,17 +1,21 @@
 -- A list is known by its places: what a loop that writes one place after another leaves behind.
-use mathlib.Core.Path.{_≡_, ap, sym, _∙_}
+use mathlib.Core.Path.{_≡_, refl, ap, sym, _∙_}
+use mathlib.Core.Bool.{Bool, true, false, cond, _&&_}
 use mathlib.Core.List.{List}
-use Prim.Native.Nat.{ℕ, zero, suc, _+_, _<_}
+use Prim.Native.Nat.{ℕ, zero, suc, _+_, _≤_, _<_}
 use native.Mathlib.Omega.{arith}
-use lib.ListN.{length, getD, set}
+use lib.Dec.{ltb, leb, eqb}
+use lib.IntN.{ℤ, pos}
+use lib.ListN.{length, getD, set, replicate, getD-replicate}
 use lib.Seq.{ext-getD, getD-set-same, getD-set-other}
 use borrow.Author.Count.{below-more}
-use Rattle.fixed.specs.Lists.{tabulate-from, tabulate}
+use borrow.Author.Tests.{eq-eqb, le-leb, lt-ltb, le-ltb, leb-true, ltb-true, ltb-false, eqb-true, eqb-false}
+use Rattle.fixed.specs.Lists.{at, tabulate-from, tabulate, part, copied, between}
 
 module _ {A : Type 0} (f : ℕ → A) (d : A) where
   length-from : (i n : ℕ) → length (tabulate-from i f n) ≡ n
   unfolding tabulate-from
-  length-from i zero = mathlib.Core.Path.refl
+  length-from i zero = refl
   length-from i (suc n) = ap suc (length-from (suc i) n)
 
   at-from : (i n k : ℕ) → k < n → getD (tabulate-from i f n) k d ≡ f (i + k)
@@ -41,3 +45,50 @@ module _ {A : Type 0} (f : ℕ → A) (d : A) where
   pub filled-all : (n : ℕ) (xs : List A) → length xs ≡ n → Filled n xs → xs ≡ tabulate f n
   filled-all n xs e p =
       ext-getD d xs (tabulate f n) (e ∙ sym (length-tabulate n)) (λ k l. p k (omega arith) ∙ sym (at-tabulate n k (omega arith)))
+
+-- the words from place 0 of a list that has no more are the list
+pub part-whole : (n : ℕ) (xs : List ℤ) → length xs ≡ n → part xs 0 n ≡ xs
+unfolding part
+part-whole n xs e =
+    sym (filled-all (λ k. at xs (0 + k)) (pos 0) n xs e (λ k l. let z : k ≡ 0 + k = omega arith in ap (at xs) z))
+
+-- a list copied into one of its length
+pub copied-whole : (n : ℕ) (xs ys : List ℤ) → length xs ≡ n → length ys ≡ n → copied xs ys ≡ xs
+unfolding copied
+copied-whole n xs ys e f = rw (eq-eqb (length xs) (length ys) (e ∙ sym f))
+
+-- ---- a list that is filled place by place from `low` on
+-- nothing is placed yet
+pub none-placed : (g d : ℕ → ℤ) (low n : ℕ) (xs : List ℤ) → Filled d (pos 0) n xs → Filled (between g d low low) (pos 0) n xs
+none-placed g d low n xs p k h = p k h ∙ go (leb low k) refl
+  where
+    go : (t : Bool) → leb low k ≡ t → d k ≡ between g d low low k
+    go true q = rw (q, le-ltb k low (leb-true low k q))
+    go false q = rw q
+
+pub zeros : (n : ℕ) → Filled (λ k. pos 0) (pos 0) n (replicate n (pos 0))
+zeros n k h = getD-replicate n k (pos 0) (pos 0) h
+
+-- the place at the end is not filled yet
+pub at-end : (g d : ℕ → ℤ) (low m : ℕ) → between g d low m m ≡ d m
+at-end g d low m = go (leb low m)
+  where
+    go : (t : Bool) → cond (t && ltb m m) (g m) (d m) ≡ d m
+    go true = rw (le-ltb m m (omega arith))
+    go false = refl
+
+-- one place more
+pub placed-more : (g d : ℕ → ℤ) (low m n : ℕ) (xs : List ℤ) (v : ℤ) → low ≤ m → m < length xs → v ≡ g m →
+    Filled (between g d low m) (pos 0) n xs → Filled (between g d low (m + 1)) (pos 0) n (set xs m v)
+placed-more g d low m n xs v h l e p k b = go (eqb k m) refl
+  where
+    -- the end moves past m alone
+    moved : (t : Bool) → ltb k m ≡ t → (k ≡ m → ⊥) → ltb k m ≡ ltb k (m + 1)
+    moved true q o = q ∙ sym (lt-ltb k (m + 1) (omega (arith, ltb-true k m q)))
+    moved false q o = q ∙ sym (le-ltb k (m + 1) (omega (arith, ltb-false k m q, o)))
+
+    go : (t : Bool) → eqb k m ≡ t → getD (set xs m v) k (pos 0) ≡ between g d low (m + 1) k
+    go true q = rw (eqb-true k m q, le-leb low m h, lt-ltb m (m + 1) (omega arith)) (getD-set-same xs m v (pos 0) l ∙ e)
+    go false q =
+        let o = eqb-false k m q in
+        getD-set-other xs m k v (pos 0) o ∙ p k b ∙ ap (λ (t : Bool). cond (leb low k && t) (g k) (d k)) (moved (ltb k m) refl o)

@@ -7,7 +7,7 @@ ghost use lib.Signed.{mag, shrZ};
 ghost use Rattle.fixed.specs.Clip.{clip};
 ghost use Rattle.fixed.specs.Operators.{add, sub, negate, abs-s, L-add, L-sub, L-negate, L-abs, L-mult, L-mac, L-msu, mult, extract-h, round, extract-l, L-deposit-h, low-half, L-Extract, Mpy-32, Mpy-32-16, L-shl, shl, even-bits, norm-l, div-s};
 ghost use Rattle.fixed.specs.Line.{line};
-ghost use Rattle.fixed.specs.Lists.{dot};
+ghost use Rattle.fixed.specs.Lists.{dot, copied};
 
 // ---- Clipping: the only two functions that test for a type's ends.
 
@@ -345,4 +345,18 @@ pub fn dot40(x: &[i16; 40], y: &[i16; 40]) -> i32
         sum = mac(sum, x[i], y[i]);
     }
     sum
+}
+
+// ---- Lists.
+
+// Into a lent list of the same length; one of another length stays as it was.
+pub fn copy(words: &[i16], list: &mut [i16])
+    ensures { λ r. ⌜ now (list .exit) ≡ copied (now (words .entry)) (now (list .entry)) ⌝ }
+{
+    if words.len() != list.len() {
+        return;
+    }
+    for i in 0..words.len() {
+        list[i] = words[i];
+    }
 }

@@ -1,3 +1,4 @@
 -- What the contracts of `mr74` cite.
 pub mod Crossing
 pub mod Pitches
+pub mod OpenLoops

@@ -1,7 +1,9 @@
 // The entries of 01 for Rust and C. An enum can't cross, so an answer is a struct: `number` is 0 where the entry accepted, else the refusal's number.
 use logarithm::Logarithm;
 use logarithm::Power;
+use open_loop::Detector;
 use pitch::Fraction;
+use pitch::OpenLoop;
 use pitch::PitchLag;
 use pitch::Reader;
 use pitch::Reading;
@@ -11,13 +13,17 @@ use pitch_search::Found;
 use pitch_search::Search;
 use refusal::Refusal;
 ghost use mathlib.Core.Path.{_≡_};
+ghost use lib.IntN.{pos};
+ghost use lib.ListN.{length};
 ghost use Rattle.logarithm.specs.Logarithms.{Log2};
 ghost use Rattle.logarithm.specs.Powers.{Pow2};
-ghost use Rattle.refusal.specs.Refused.{number, detail};
+ghost use Rattle.refusal.specs.Refused.{refused, number, detail};
+ghost use Rattle.pitch.specs.Kinds.{told-lag};
 ghost use Rattle.pitch.specs.Readers.{read};
 ghost use Rattle.pitch_search.specs.Filters.{convolve};
 ghost use Rattle.pitch_search.specs.Searches.{Pitch-fr};
 ghost use Rattle.mr74.specs.Crossing.{power-answer};
+ghost use Rattle.mr74.specs.OpenLoops.{lag-answer, open-loop};
 ghost use Rattle.mr74.specs.Pitches.{fraction-of, subframe-of, lag-of-state, searcher-of, reader-of, fresh-state, accepted-pitch, refused-pitch, pitch-answer, reading-answer, length-answer};
 
 #[repr(C)]
@@ -168,6 +174,78 @@ pub extern "C" fn mr74_convolve(
             }
         }
     }
+}
+
+// ---- The open loop. A detector crosses as its 143 old words, lent by the caller and updated there; fresh, they are all 0.
+
+#[repr(C)]
+pub struct OpenLoopAnswer {
+    pub number: u8,
+    pub magnitude: u64,
+    pub lag: u16,
+}
+
+#[no_mangle]
+pub extern "C" fn mr74_open_loop(samples_q0: &[i16], history_q0: &mut [i16]) -> OpenLoopAnswer
+    ensures { λ r. ⌜ (r ≡ lag-answer (open-loop (now («samples_q0» .entry)) (now («history_q0» .entry)) .answer))
+        × (now («history_q0» .exit) ≡ open-loop (now («samples_q0» .entry)) (now («history_q0» .entry)) .after) ⌝ }
+{
+    if samples_q0.len() != 80 {
+        return refused_length(samples_q0.len());
+    }
+    if history_q0.len() != 143 {
+        return refused_length(history_q0.len());
+    }
+    let old = history(history_q0);
+    let detector = Detector { history_q0: old };
+    let step = detector.push(samples_q0);
+    let lag = step.lag;
+    let after = step.detector;
+    let words = after.history_q0;
+    let kept: &[i16] = &words;
+    fixed::copy(kept, history_q0);
+    lag_answer(lag)
+}
+
+fn refused_length(length: usize) -> OpenLoopAnswer
+    ensures { λ r. ⌜ r ≡ lag-answer (refused 1 (pos length)) ⌝ }
+{
+    OpenLoopAnswer {
+        number: 1,
+        magnitude: length as u64,
+        lag: 0,
+    }
+}
+
+fn lag_answer(lag: OpenLoop) -> OpenLoopAnswer
+    ensures { λ r. ⌜ r ≡ lag-answer (told-lag lag) ⌝ }
+{
+    match lag {
+        OpenLoop::Lag(found) => OpenLoopAnswer {
+            number: 0,
+            magnitude: 0,
+            lag: found.samples(),
+        },
+        OpenLoop::Refused(refusal) => {
+            let detail = refusal.detail();
+            OpenLoopAnswer {
+                number: refusal.number(),
+                magnitude: detail.magnitude,
+                lag: 0,
+            }
+        }
+    }
+}
+
+fn history(words: &[i16]) -> [i16; 143]
+    requires { ⌜ length (now words) ≡ 143 ⌝ }
+    ensures { λ r. ⌜ r ≡ now (words .entry) ⌝ }
+{
+    let mut old = [0i16; 143];
+    for i in 0..143 {
+        old[i] = words[i];
+    }
+    old
 }
 
 // A number that is no third is read by its sign, a number that is no subframe as 4.

@@ -11,6 +11,7 @@ use lib.Signed.{ltZ, leZ}
 use borrow.Author.Tests.{ltb-true, ltb-false}
 use Rattle.fixed.specs.Lists.{at}
 use Rattle.fixed.proofs.Bounds.{either}
+use Rattle.fixed.proofs.Choices.{best-in}
 use Rattle.pitch.specs.declared.Fraction.the-variants.{MinusThird, Zero}
 use Rattle.pitch.specs.declared.Subframe.{Subframe}
 use Rattle.pitch.specs.declared.Subframe.the-variants.{One, Two, Three, Four}
@@ -45,18 +46,11 @@ settled-last lag (suc (suc (suc (suc k)))) h = refl
 module _ (cs : List ℤ) where
   pub best-lag-in : (start n : ℕ) → (start ≤ best-lag cs start n) × (best-lag cs start n ≤ start + n)
   unfolding best-lag
-  best-lag-in start zero = (omega arith, omega arith)
-  best-lag-in start (suc n) =
-      let h = best-lag-in start n in
-      either (λ (l : ℕ). (start ≤ l) × (l ≤ start + suc n)) (leZ (at cs (best-lag cs start n)) (at cs (start + suc n))) (start + suc n) (best-lag cs start n)
-      (omega arith, omega arith) (h .0, omega arith)
+  best-lag-in start n = best-in leZ (at cs) start n
 
   pub best-step-in : (lag n : ℕ) → best-step cs lag n ≤ n
   unfolding best-step
-  best-step-in lag zero = omega arith
-  best-step-in lag (suc n) =
-      let h = best-step-in lag n in
-      either (λ (k : ℕ). k ≤ suc n) (ltZ (step-value cs lag (best-step cs lag n)) (step-value cs lag (suc n))) (suc n) (best-step cs lag n) (omega arith) (omega arith)
+  best-step-in lag n = omega (arith, best-in ltZ (step-value cs lag) 0 n .1)
 
 -- a settled lag counted in thirds: the whole lag's thirds and the step, less one
 settled-thirds : (lag step : ℕ) → 1 ≤ lag → step ≤ 4 → in-thirds (settled lag step) ≡ 3 * lag + step - 1

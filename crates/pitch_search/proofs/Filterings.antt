@@ -10,16 +10,10 @@ use lib.ListN.{length, getD, set, replicate, getD-replicate}
 use lib.Seq.{getD-set-same, getD-set-other}
 use borrow.Author.Tests.{le-leb, lt-ltb, le-ltb, leb-true, leb-false, ltb-true, ltb-false, eqb-true, eqb-false}
 use Rattle.fixed.specs.Operators.{add, L-mult, L-mac, L-shl, extract-h}
-use Rattle.fixed.specs.Lists.{at, L-sum}
-use Rattle.fixed.proofs.Lists.{Filled, filled-all}
-use Rattle.pitch_search.specs.Filters.{products-to}
-use Rattle.pitch_search.specs.Correlations.{forty, update-at, between}
-
--- 40 words from place 0 of a list of 40 are the list
-pub forty-whole : (xs : List ℤ) → length xs ≡ 40 → forty xs 0 ≡ xs
-unfolding forty
-forty-whole xs e =
-    sym (filled-all (λ k. at xs (0 + k)) (pos 0) 40 xs e (λ k l. let z : k ≡ 0 + k = omega arith in ap (at xs) z))
+use Rattle.fixed.specs.Lists.{at, between, L-sum}
+use Rattle.fixed.proofs.Lists.{length-tabulate, Filled, zeros}
+use Rattle.pitch_search.specs.Filters.{products-to, convolved-at, Convolve}
+use Rattle.pitch_search.specs.Correlations.{update-at}
 
 -- the shift of a filter is never held
 pub shift-held : (l : Bool) → min (cond l 1 3) 15 ≡ cond l 1 3
@@ -35,41 +29,10 @@ update-suc l hs sample fs (suc j) h =
     let e : j ≡ suc j - 1 = omega arith in
     ap (λ (k : ℕ). add (extract-h (L-shl (L-mult sample (at hs (suc j))) (pos (cond l 1 3)))) (at fs k)) e
 
--- ---- a list that is filled place by place from `low` on
--- nothing is placed yet
-pub none-placed : (g d : ℕ → ℤ) (low n : ℕ) (xs : List ℤ) → Filled d (pos 0) n xs → Filled (between g d low low) (pos 0) n xs
-none-placed g d low n xs p k h = p k h ∙ go (leb low k) refl
-  where
-    go : (t : Bool) → leb low k ≡ t → d k ≡ between g d low low k
-    go true q = rw (q, le-ltb k low (leb-true low k q))
-    go false q = rw q
-
-pub zeros : (n : ℕ) → Filled (λ k. pos 0) (pos 0) n (replicate n (pos 0))
-zeros n k h = getD-replicate n k (pos 0) (pos 0) h
-
--- the place at the end is not filled yet
-pub at-end : (g d : ℕ → ℤ) (low m : ℕ) → between g d low m m ≡ d m
-at-end g d low m = go (leb low m)
-  where
-    go : (t : Bool) → cond (t && ltb m m) (g m) (d m) ≡ d m
-    go true = rw (le-ltb m m (omega arith))
-    go false = refl
-
--- one place more
-pub placed-more : (g d : ℕ → ℤ) (low m n : ℕ) (xs : List ℤ) (v : ℤ) → low ≤ m → m < length xs → v ≡ g m →
-    Filled (between g d low m) (pos 0) n xs → Filled (between g d low (m + 1)) (pos 0) n (set xs m v)
-placed-more g d low m n xs v h l e p k b = go (eqb k m) refl
-  where
-    -- the end moves past m alone
-    moved : (t : Bool) → ltb k m ≡ t → (k ≡ m → ⊥) → ltb k m ≡ ltb k (m + 1)
-    moved true q o = q ∙ sym (lt-ltb k (m + 1) (omega (arith, ltb-true k m q)))
-    moved false q o = q ∙ sym (le-ltb k (m + 1) (omega (arith, ltb-false k m q, o)))
-
-    go : (t : Bool) → eqb k m ≡ t → getD (set xs m v) k (pos 0) ≡ between g d low (m + 1) k
-    go true q = rw (eqb-true k m q, le-leb low m h, lt-ltb m (m + 1) (omega arith)) (getD-set-same xs m v (pos 0) l ∙ e)
-    go false q =
-        let o = eqb-false k m q in
-        getD-set-other xs m k v (pos 0) o ∙ p k b ∙ ap (λ (t : Bool). cond (leb low k && t) (g k) (d k)) (moved (ltb k m) refl o)
+-- a filtered list has 40 words
+pub convolve-length : (xs hs : List ℤ) → length (Convolve xs hs) ≡ 40
+unfolding Convolve
+convolve-length xs hs = length-tabulate (convolved-at xs hs) (pos 0) 40
 
 -- ---- Convolve with its sums side by side: what place n holds once i words of the input are taken in
 module _ (xs hs : List ℤ) where

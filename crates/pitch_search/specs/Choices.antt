@@ -6,7 +6,7 @@ use lib.Dec.{ltb}
 use lib.IntN.{ℤ, pos, negsuc}
 use lib.Signed.{ltZ, leZ}
 use Rattle.fixed.specs.Operators.{L-mac, round}
-use Rattle.fixed.specs.Lists.{at}
+use Rattle.fixed.specs.Lists.{at, best}
 use Rattle.pitch.specs.declared.Fraction.the-variants.{MinusThird, Zero, PlusThird}
 use Rattle.pitch.specs.declared.PitchLag.{PitchLag}
 
@@ -35,13 +35,11 @@ step-value cs lag (suc (suc k)) = Interpol-6 cs lag (2 * k)
 
 -- Pitch_fr, 'Find integer pitch'; 01: 'Larger lag wins a tie'. The greatest of the n + 1 lags from start on
 unfoldable pub best-lag : List ℤ → ℕ → ℕ → ℕ
-best-lag cs start zero = start
-best-lag cs start (suc n) = cond (leZ (at cs (best-lag cs start n)) (at cs (start + suc n))) (start + suc n) (best-lag cs start n)
+best-lag cs start n = best leZ (at cs) start n
 
 -- 'Then fractions −2 to 2, the earlier kept on a tie': the greatest of the steps 0 to n
 unfoldable pub best-step : List ℤ → ℕ → ℕ → ℕ
-best-step cs lag zero = 0
-best-step cs lag (suc n) = cond (ltZ (step-value cs lag (best-step cs lag n)) (step-value cs lag (suc n))) (suc n) (best-step cs lag n)
+best-step cs lag n = best ltZ (step-value cs lag) 0 n
 
 -- '−2 becomes +1 with one lag less, 2 becomes −1 with one more'
 abbrev pub settled : ℕ → ℕ → PitchLag

@@ -1,18 +1,13 @@
 -- TS 26.073 Norm_Corr: the target against the excitation filtered at each lag, over the root of that list's energy.
-use mathlib.Core.Bool.{Bool, cond, _&&_}
+use mathlib.Core.Bool.{Bool, cond}
 use mathlib.Core.List.{List}
 use Prim.Native.Nat.{ℕ, zero, suc, _+_, _-_}
-use lib.Dec.{ltb, leb}
 use lib.IntN.{ℤ, pos, negsuc}
 use lib.Signed.{ltZ}
 use Rattle.fixed.specs.Operators.{add, L-mult, L-shl, shl, extract-h, Mpy-32}
-use Rattle.fixed.specs.Lists.{at, tabulate, dot}
+use Rattle.fixed.specs.Lists.{at, tabulate, part, between, dot}
 use Rattle.energy.specs.Root.{Inv-sqrt}
 use Rattle.pitch_search.specs.Filters.{Convolve}
-
--- a subframe's 40 words of a list, from a place on
-unfoldable pub forty : List ℤ → ℕ → List ℤ
-forty xs from = tabulate (λ k. at xs (from + k)) 40
 
 -- Norm_Corr, 'scale "excf[]" to avoid overflow': the filtered list of the first lag decides for all. Above an energy of 2 ^ 26, words are shifted right by 2
 unfoldable pub loud : List ℤ → Bool
@@ -44,10 +39,6 @@ filtered l exc hs low fs (suc k) = update l hs (at exc (154 - (low + suc k))) (f
 unfoldable pub normalized : List ℤ → List ℤ → ℤ
 normalized target fs = extract-h (L-shl (Mpy-32 (dot fs target 40) (Inv-sqrt (dot fs fs 40))) (pos 16))
 
--- g of each place from low up to, and without, end; d of every other
-abbrev pub between : (ℕ → ℤ) → (ℕ → ℤ) → ℕ → ℕ → ℕ → ℤ
-between g d low end k = cond (leb low k && ltb k end) (g k) (d k)
-
 -- Norm_Corr, corr_norm[lag]
 unfoldable pub correlation-at : Bool → List ℤ → List ℤ → List ℤ → ℕ → List ℤ → ℕ → ℤ
 correlation-at l exc target hs low first lag = normalized target (filtered l exc hs low first (lag - low))
@@ -58,4 +49,4 @@ correlations-from first exc target hs low end = tabulate (between (correlation-a
 
 -- Norm_Corr from its start: the excitation's subframe starts at place 154, and the first lag's words `low` places before it
 unfoldable pub correlations : List ℤ → List ℤ → List ℤ → ℕ → ℕ → List ℤ
-correlations exc target hs low end = correlations-from (Convolve (forty exc (154 - low)) hs) exc target hs low end
+correlations exc target hs low end = correlations-from (Convolve (part exc (154 - low) 40) hs) exc target hs low end

@@ -9,12 +9,12 @@ ghost use mathlib.Core.Bool.{cond};
 ghost use mathlib.Core.Path.{_≡_};
 ghost use Prim.Native.Nat.{suc, _+_, _-_, _<_, _≤_};
 ghost use lib.ListN.{length};
-ghost use Rattle.fixed.specs.Lists.{tabulate};
+ghost use Rattle.fixed.specs.Lists.{tabulate, part};
 ghost use Rattle.energy.specs.Root.{inverses};
 ghost use Rattle.refusal.specs.Refused.{values, turned-down};
 ghost use Rattle.pitch.specs.Kinds.{following};
 ghost use Rattle.pitch_search.specs.Filters.{products-to, Convolve, told-convolution, convolve};
-ghost use Rattle.pitch_search.specs.Correlations.{forty, loud, scaled, scaled-all, update, normalized, correlations-from, correlations};
+ghost use Rattle.pitch_search.specs.Correlations.{loud, scaled, scaled-all, update, normalized, correlations-from, correlations};
 ghost use Rattle.pitch_search.specs.Choices.{interpolator, Interpol-6, step-value, best-lag, best-step, settled, chosen};
 ghost use Rattle.pitch_search.specs.Searches.{fresh-search, told, start-of, span-of, pitch-in, accepted, Pitch-fr};
 
@@ -89,29 +89,22 @@ pub fn convolve(input: &[i16], impulse_q12: &[i16], output: &mut [i16]) -> Convo
     }
     let words = forty(input, 0);
     let impulse = forty(impulse_q12, 0);
-    copy_out(&convolved(&words, &impulse), output);
+    let filtered = convolved(&words, &impulse);
+    let list: &[i16] = &filtered;
+    fixed::copy(list, output);
     Convolution::Written
 }
 
 // 40 words of a list, from a place on.
 fn forty(list: &[i16], from: usize) -> [i16; 40]
     requires { ⌜ from + 40 ≤ length (now list) ⌝ }
-    ensures { λ r. ⌜ r ≡ forty (now (list .entry)) from ⌝ }
+    ensures { λ r. ⌜ r ≡ part (now (list .entry)) from 40 ⌝ }
 {
     let mut words = [0i16; 40];
     for i in 0..40 {
         words[i] = list[from + i];
     }
     words
-}
-
-fn copy_out(words: &[i16; 40], output: &mut [i16])
-    requires { ⌜ (length (now words) ≡ 40) × (length (now output) ≡ 40) ⌝ }
-    ensures { λ r. ⌜ now (output .exit) ≡ now (words .entry) ⌝ }
-{
-    for i in 0..40 {
-        output[i] = words[i];
-    }
 }
 
 fn convolved(input: &[i16; 40], impulse: &[i16; 40]) -> [i16; 40]

@@ -5,6 +5,7 @@ use Prim.Native.Nat.{ℕ}
 use lib.ListN.{getD}
 use Rattle.refusal.specs.Refused.{values}
 use Rattle.logarithm.specs.Opens.{logarithm-opens}
+use Rattle.open_loop.specs.Opens.{open-loop-opens}
 use Rattle.pitch_search.specs.Opens.{search-opens}
 use Rattle.points.specs.Answer.{powerOfTwo, answer}
 use Rattle.points.specs.Table.{Point, Holds, points, Points}
@@ -40,14 +41,18 @@ after-20 : Holds (point 6)
 unfolding points answer
 after-20 = refl
 
-line-3 : Holds (point 7)
+line-2 : Holds (point 7)
+unfolding points answer open-loop-opens
+line-2 = refl
+
+line-3 : Holds (point 8)
 unfolding points answer search-opens
 line-3 = refl
 
-line-4 : Holds (point 8)
+line-4 : Holds (point 9)
 unfolding points answer search-opens
 line-4 = refl
 
 pub computed : Points
 unfolding Points
-computed = (pow2-14, (index-of-85, (index-0, (index-196, (index-255, (after-144, (after-20, (line-3, (line-4, tt)))))))))
+computed = (pow2-14, (index-of-85, (index-0, (index-196, (index-255, (after-144, (after-20, (line-2, (line-3, (line-4, tt))))))))))

@@ -8,6 +8,7 @@ use Rattle.pitch.specs.declared.PitchLag.{PitchLag}
 use Rattle.pitch.specs.Kinds.{thirds}
 use Rattle.pitch.specs.Windows.{handset, relative-start}
 use Rattle.pitch.specs.Indexes.{absolute-index, absolute-lag, relative-lag}
+use Rattle.open_loop.specs.Detectors.{fresh-detector, Pitch-ol}
 use Rattle.pitch_search.specs.declared.Search.{Search}
 use Rattle.pitch_search.specs.Searches.{fresh-search, Pitch-fr}
 
@@ -18,6 +19,8 @@ pub data Question : Type 0 where
   absoluteReading : ℕ → Question
   relativeReading : ℕ → ℕ → Question
   absoluteIndex : PitchLag → Question
+  -- a half frame pushed into a fresh detector
+  openLoop : List ℤ → Question
   -- a pitch search of the lists excitation, target and impulse, with two open-loop lags, after the same searches of the subframes in the list
   pitchAfter : List ℕ → List ℤ → List ℤ → List ℤ → ℕ → ℕ → ℕ → Question
 
@@ -34,5 +37,6 @@ answer (powerOfTwo e f) = put (λ v. v ∷ []) (Pow2 e f)
 answer (absoluteReading index) = values (lag-numbers (absolute-lag index))
 answer (relativeReading previous index) = values (lag-numbers (relative-lag (relative-start handset previous) index))
 answer (absoluteIndex l) = values (pos (absolute-index l) ∷ [])
+answer (openLoop samples) = put (λ l. pos l ∷ []) (Pitch-ol fresh-detector samples .answer)
 answer (pitchAfter ns exc target hs first second n) =
     put (λ p. pos (p .index) ∷ lag-numbers (p .lag)) (Pitch-fr (searched-after ns exc target hs first second fresh-search) exc target hs first second n .answer)

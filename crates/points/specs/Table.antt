@@ -6,7 +6,7 @@ use lib.IntN.{ℤ, pos, negsuc}
 use lib.ListN.{replicate}
 use Rattle.refusal.specs.Refused.{Told, values}
 use Rattle.pitch.specs.declared.Fraction.the-variants.{Zero}
-use Rattle.points.specs.Answer.{Question, powerOfTwo, absoluteReading, relativeReading, absoluteIndex, pitchAfter, answer}
+use Rattle.points.specs.Answer.{Question, powerOfTwo, absoluteReading, relativeReading, absoluteIndex, openLoop, pitchAfter, answer}
 
 -- a question and what 01 says of it
 pub record Point : Type 0 where
@@ -28,7 +28,8 @@ points =
     -- 'previous 144, index 31: 144 and −1. Previous 20, index 0: 19 and +1'
     ∷ record { asked = relativeReading 144 31; told = values (pos 144 ∷ negsuc 0 ∷ []) }
     ∷ record { asked = relativeReading 20 0; told = values (pos 19 ∷ pos 1 ∷ []) }
-    -- lines 3 and 4 of the listing
+    -- lines 2, 3 and 4 of the listing
+    ∷ record { asked = openLoop (replicate 80 (pos 0)); told = values (pos 80 ∷ []) }
     ∷ record { asked = silent-pitch [] 1; told = values (pos 189 ∷ pos 82 ∷ pos 1 ∷ []) }
     ∷ record { asked = silent-pitch (1 ∷ []) 2; told = values (pos 27 ∷ pos 85 ∷ pos 1 ∷ []) }
     ∷ []

@@ -1,10 +1,10 @@
-use Rattle.fixed.specs.Lists.{at}
 use mathlib.Core.Path.{_≡_, refl}
 use Prim.Native.Nat.{_≤_, _<_, _-_, _+_}
 use native.Mathlib.Omega.{arith}
 use native.Mathlib.Numerals.{add-one}
 use borrow.Author.Needs.{needs}
 use mir.Syntax.{w16}
+use Rattle.fixed.specs.Lists.{at, better, best}
 use Rattle.fixed.proofs.Bounds.{got}
 use Rattle.pitch_search.specs.Choices.{best-lag}
 use Rattle.pitch_search.proofs.best_lag.Statement.{statement}
@@ -17,7 +17,7 @@ abbrev μ-loop : tie.MeasureT-loop
 μ-loop correlation start span lag₀ i₀ lag i = span - i
 
 loop-holds : tie.Need-loop-holds Inv-loop μ-loop
-unfolding best-lag
+unfolding best-lag best better
 loop-holds c = (c .pre, omega arith, omega arith, omega arith, refl)
 
 add-i : tie.Need-add-i Inv-loop μ-loop
@@ -45,7 +45,7 @@ loop-less : tie.Need-loop-less Inv-loop μ-loop
 loop-less c = search needs
 
 loop-again : tie.Need-loop-again Inv-loop μ-loop
-unfolding best-lag
+unfolding best-lag best better
 loop-again c =
     let s = c .before .before .before .before in
     let t = rw (got w16 (c .before .if13 .given) refl, got w16 (c .before .before .if12 .given) refl, s .loop .inv .4, add-one (s .loop .i)) at (c .if1 .taken) in
@@ -55,7 +55,7 @@ loop-less-2 : tie.Need-loop-less-2 Inv-loop μ-loop
 loop-less-2 c = search needs
 
 loop-again-2 : tie.Need-loop-again-2 Inv-loop μ-loop
-unfolding best-lag
+unfolding best-lag best better
 loop-again-2 c =
     let s = c .before .before .before .before in
     let t = rw (got w16 (c .before .if13 .given) refl, got w16 (c .before .before .if12 .given) refl, s .loop .inv .4, add-one (s .loop .i)) at (c .if1 .left) in

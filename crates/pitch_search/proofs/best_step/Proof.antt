@@ -1,11 +1,14 @@
-use mathlib.Core.Path.{_≡_, refl}
-use Prim.Native.Nat.{_≤_, _-_}
+use mathlib.Core.Path.{_≡_, refl, sym, _∙_}
+use mathlib.Core.Bool.{true, false}
+use Prim.Native.Nat.{_≤_, _-_, _+_}
 use native.Mathlib.Omega.{arith}
-use native.Mathlib.Numerals.{add-one}
 use borrow.Author.Needs.{needs}
 use mir.Syntax.{w16}
 use mir.Val.{toZ}
+use Rattle.fixed.specs.Lists.{best}
+use lib.Signed.{ltZ}
 use Rattle.fixed.proofs.Bounds.{got}
+use Rattle.fixed.proofs.Choices.{best-more}
 use Rattle.pitch_search.specs.Choices.{interpolator, step-value, best-step}
 use Rattle.pitch_search.proofs.best_step.Statement.{statement}
 use Rattle.pitch_search.proofs.best_step.Tie as tie
@@ -21,7 +24,7 @@ unfolding interpolator
 step-value-requires c κs = (refl, c .before .pre .0, c .before .pre .1, omega arith)
 
 loop-holds : tie.Need-loop-holds Inv-loop μ-loop
-unfolding interpolator best-step
+unfolding interpolator best-step best
 loop-holds c = (omega arith, c .before .before .pre .0, c .before .before .pre .1, refl, omega arith, refl, got w16 (c .step-value .ok) (c .step-value .ensures))
 
 add-step : tie.Need-add-step Inv-loop μ-loop
@@ -40,9 +43,11 @@ loop-again : tie.Need-loop-again Inv-loop μ-loop
 unfolding best-step interpolator
 loop-again c =
     let s = c .before .before .before .before in
+    let a = s .before .before .before .args in
     let v = got w16 (c .before .step-value2 .ok) (c .before .step-value2 .ensures) in
-    let t = rw (s .loop .inv .6, s .loop .inv .5, v, add-one (s .loop .step)) at (c .if1 .taken) in
-    (omega arith, s .loop .inv .1, s .loop .inv .2, refl, omega arith, rw (add-one (s .loop .step), t), v)
+    let t = rw (s .loop .inv .6, s .loop .inv .5, v) at (c .if1 .taken) in
+    let e = best-more ltZ (step-value (a .correlation .now) (a .lag)) 0 (s .loop .step) (s .loop .step + 1) true (omega arith) t in
+    (omega arith, s .loop .inv .1, s .loop .inv .2, refl, omega arith, sym e, v)
 
 loop-less-2 : tie.Need-loop-less-2 Inv-loop μ-loop
 loop-less-2 c = search needs
@@ -51,9 +56,11 @@ loop-again-2 : tie.Need-loop-again-2 Inv-loop μ-loop
 unfolding best-step interpolator
 loop-again-2 c =
     let s = c .before .before .before .before in
+    let a = s .before .before .before .args in
     let v = got w16 (c .before .step-value2 .ok) (c .before .step-value2 .ensures) in
-    let t = rw (s .loop .inv .6, s .loop .inv .5, v, add-one (s .loop .step)) at (c .if1 .left) in
-    (omega arith, s .loop .inv .1, s .loop .inv .2, refl, s .loop .inv .4, rw (add-one (s .loop .step), t) (s .loop .inv .5), s .loop .inv .6)
+    let t = rw (s .loop .inv .6, s .loop .inv .5, v) at (c .if1 .left) in
+    let e = best-more ltZ (step-value (a .correlation .now) (a .lag)) 0 (s .loop .step) (s .loop .step + 1) false (omega arith) t in
+    (omega arith, s .loop .inv .1, s .loop .inv .2, refl, s .loop .inv .4, s .loop .inv .5 ∙ sym e, s .loop .inv .6)
 
 returns : tie.Need-returns Inv-loop μ-loop
 returns c =

@@ -7,11 +7,10 @@ use lib.ListN.{length, length-set}
 use mir.Syntax.{w16, w32}
 use mir.Val.{toZ, ofZ}
 use Rattle.fixed.proofs.Bounds.{got}
-use Rattle.fixed.specs.Lists.{at}
-use Rattle.fixed.proofs.Lists.{Filled, filled-all}
+use Rattle.fixed.specs.Lists.{at, between}
+use Rattle.fixed.proofs.Lists.{Filled, filled-all, none-placed, at-end, placed-more}
 use Rattle.pitch_search.specs.Filters.{products-to}
-use Rattle.pitch_search.specs.Correlations.{between}
-use Rattle.pitch_search.proofs.Filterings.{none-placed, at-end, placed-more, taken-in, none-taken, term-more, row-done, all-taken}
+use Rattle.pitch_search.proofs.Filterings.{taken-in, none-taken, term-more, row-done, all-taken}
 use Rattle.pitch_search.proofs.convolution_sums.Statement.{statement}
 use Rattle.pitch_search.proofs.convolution_sums.Tie as tie
 

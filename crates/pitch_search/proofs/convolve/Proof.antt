@@ -1,6 +1,10 @@
+use Rattle.pitch_search.proofs.Filterings.{convolve-length}
+use Rattle.pitch_search.specs.Filters.{Convolve}
+use Rattle.fixed.proofs.Lists.{copied-whole}
+use mathlib.Core.Path.{_≡_}
 use borrow.Author.Tests.{eq-eqb, ne-eqb}
+use Rattle.fixed.proofs.Lists.{part-whole}
 use Rattle.pitch_search.specs.Filters.{convolve}
-use Rattle.pitch_search.proofs.Filterings.{forty-whole}
 use borrow.Author.Needs.{needs}
 use Rattle.pitch_search.proofs.convolve.Statement.{statement}
 use Rattle.pitch_search.proofs.convolve.Tie as tie
@@ -33,8 +37,11 @@ forty-requires-2 c κs = search needs
 convolved-requires : tie.Need-convolved-requires
 convolved-requires c κs = search needs
 
-copy-out-requires : tie.Need-copy-out-requires
-copy-out-requires c κs = search needs
+slice-aggregate-list : tie.Need-slice-aggregate-list
+slice-aggregate-list c = search needs
+
+copy-requires : tie.Need-copy-requires
+copy-requires c κs = search needs
 
 same-length : tie.Need-same-length
 same-length c = search needs
@@ -42,25 +49,25 @@ same-length c = search needs
 returns-4 : tie.Need-returns-4
 unfolding convolve
 returns-4 c =
-    let v = c .before .before .before .before in
+    let k = c .before in
+    let v = k .before .before .before in
     let w = v .before .before .before in
     let s = w .before .before in
     let i = s .before .before .before .args in
     let a = eq-eqb _ _ (s .before .before .if1 .left) in
     let b = eq-eqb _ _ (s .before .if2 .left) in
-    let d = eq-eqb _ _ (s .if3 .left) in (
+    let d = eq-eqb _ _ (s .if3 .left) in
+    let whole : v .convolved .result ≡ Convolve (i .input .now) (i .impulse-q12 .now) =
+    rw (
+      v .convolved .ensures,
+      w .forty2 .ensures,
+      w .before .forty .ensures,
+      part-whole 40 (i .input .now) (s .before .before .if1 .left),
+      part-whole 40 (i .impulse-q12 .now) (s .before .if2 .left),
+    )
+    in (
       rw (a, b, d),
-      rw (
-        a,
-        b,
-        d,
-        c .before .copy-out .ensures,
-        v .convolved .ensures,
-        w .forty2 .ensures,
-        w .before .forty .ensures,
-        forty-whole (i .input .now) (s .before .before .if1 .left),
-        forty-whole (i .impulse-q12 .now) (s .before .if2 .left),
-      ),
+      rw (a, b, d, k .copy .ensures, whole) (copied-whole 40 (Convolve (i .input .now) (i .impulse-q12 .now)) (i .output .now) (convolve-length (i .input .now) (i .impulse-q12 .now)) (s .if3 .left)),
     )
 
 pub convolve-spec : {M : Type 1} → statement M
@@ -73,6 +80,7 @@ convolve-spec =
     forty-requires
     forty-requires-2
     convolved-requires
-    copy-out-requires
+    slice-aggregate-list
+    copy-requires
     same-length
     returns-4)

@@ -7,12 +7,11 @@ use borrow.Author.Needs.{needs}
 use lib.IntN.{ℤ, pos}
 use mir.Syntax.{w16}
 use mir.Val.{toZ, ofZ}
-use Rattle.fixed.specs.Lists.{at}
+use Rattle.fixed.specs.Lists.{at, between}
 use Rattle.fixed.proofs.Bounds.{got}
-use Rattle.fixed.proofs.Lists.{Filled, filled-all}
+use Rattle.fixed.proofs.Lists.{Filled, filled-all, none-placed, zeros, placed-more}
 use Rattle.energy.specs.Root.{inverses}
-use Rattle.pitch_search.specs.Correlations.{loud, filtered, between, correlation-at, correlations-from}
-use Rattle.pitch_search.proofs.Filterings.{none-placed, zeros, placed-more}
+use Rattle.pitch_search.specs.Correlations.{loud, filtered, correlation-at, correlations-from}
 use Rattle.pitch_search.proofs.correlated.Statement.{statement}
 use Rattle.pitch_search.proofs.correlated.Tie as tie
 

@@ -7,9 +7,8 @@ use lib.ListN.{length, length-set}
 use mir.Syntax.{w16}
 use mir.Val.{toZ, ofZ}
 use Rattle.fixed.proofs.Bounds.{got}
-use Rattle.fixed.specs.Lists.{at}
+use Rattle.fixed.specs.Lists.{at, part}
 use Rattle.fixed.proofs.Lists.{Filled, filled-more, filled-all}
-use Rattle.pitch_search.specs.Correlations.{forty}
 use Rattle.pitch_search.proofs.forty.Statement.{statement}
 use Rattle.pitch_search.proofs.forty.Tie as tie
 
@@ -56,7 +55,7 @@ loop-again c =
     )
 
 returns : tie.Need-returns Inv-loop μ-loop
-unfolding forty
+unfolding part
 returns c =
     let s = c .before in
     let a = s .before .args in

@@ -1,5 +1,5 @@
 use Rattle.pitch_search.specs.Searches.{pitch-in}
-use Rattle.pitch_search.proofs.Filterings.{forty-whole}
+use Rattle.fixed.proofs.Lists.{part-whole}
 use borrow.Author.Needs.{needs}
 use Rattle.pitch_search.proofs.pitch_in.Statement.{statement}
 use Rattle.pitch_search.proofs.pitch_in.Tie as tie
@@ -47,8 +47,8 @@ returns c =
       f .forty2 .ensures,
       f .before .before .forty .ensures,
       f .before .before .before .span .ensures,
-      forty-whole (s .args .target .now) (s .pre .1),
-      forty-whole (s .args .impulse .now) (s .pre .2),
+      part-whole 40 (s .args .target .now) (s .pre .1),
+      part-whole 40 (s .args .impulse .now) (s .pre .2),
     )
 
 pub pitch-in-spec : {M : Type 1} → statement M
