@@ -1,8 +1,8 @@
 //! Compiles the published Rust into the oracle and links the library.
 //!
 //! The published files are copied to the output folder as they stand, with the texts of
-//! `REPLACED` replaced so that private functions can be called. Nothing of them is kept in this
-//! repository.
+//! `REPLACED` replaced so that private functions can be called and private fields read. Nothing of
+//! them is kept in this repository.
 
 use std::{
     env, fs,
@@ -88,6 +88,12 @@ const REPLACED: &[(&str, &str, &str, usize)] = &[
     ("gain/quantization.rs", "fn shift(", "pub fn shift(", 1),
     ("gain/quantization.rs", "fn shift_word(", "pub fn shift_word(", 1),
     ("lpc.rs", "fn doubled_product(", "pub fn doubled_product(", 1),
+    ("pitch/open_loop.rs", "    history_q0: [i16;", "    pub history_q0: [i16;", 1),
+    ("pitch/open_loop.rs", "const HISTORY_SAMPLES:", "pub const HISTORY_SAMPLES:", 1),
+    ("pitch/open_loop.rs", "const LOW_ENERGY_LIMIT:", "pub const LOW_ENERGY_LIMIT:", 1),
+    ("pitch/open_loop.rs", "const MINIMUM_LAG:", "pub const MINIMUM_LAG:", 1),
+    ("pitch/open_loop.rs", "const SCALE_SHIFT:", "pub const SCALE_SHIFT:", 1),
+    ("pitch/open_loop.rs", "fn candidate(", "pub fn candidate(", 1),
     ("pitch/open_loop.rs", "fn fractional(", "pub fn fractional(", 1),
     ("pitch/open_loop.rs", "fn multiply(", "pub fn multiply(", 1),
     ("pitch/open_loop.rs", "fn product(", "pub fn product(", 1),
@@ -112,8 +118,8 @@ const REPLACED: &[(&str, &str, &str, usize)] = &[
     ("synthesis.rs", "fn saturated(", "pub fn saturated(", 1),
 ];
 
-/// A published expression that is no function of its own. Its text is cut out between two others
-/// and becomes one.
+/// A published expression, or some statements, that are no function of their own. The text is cut
+/// out between two others and becomes one.
 struct Expression {
     file: &'static str,
     start: &'static str,
@@ -157,6 +163,30 @@ const EXPRESSIONS: &[Expression] = &[
         function: "pub fn dot40(filtered: &[i16; 40], target: &[i16; 40]) -> i32 {
     use codec::mr74::pitch::search::product;
     filtered EXPRESSION
+}
+",
+    },
+    // The two steps of `push` before its choice.
+    Expression {
+        file: "pitch/open_loop.rs",
+        start: ".copy_from_slice(&input[HALF_FRAME_SAMPLES..]);",
+        end: "let correlation = ",
+        occurrences: 1,
+        function: "pub fn open_loop_scaled(mut input: [i16; 223]) -> [i16; 223] {
+    use codec::mr74::pitch::open_loop::{LOW_ENERGY_LIMIT, SCALE_SHIFT, product, shift_word};
+    EXPRESSION
+    input
+}
+",
+    },
+    Expression {
+        file: "pitch/open_loop.rs",
+        start: "let correlation = ",
+        end: "});",
+        occurrences: 1,
+        function: "pub fn open_loop_correlation(input: &[i16; 223]) -> [i32; 144] {
+    use codec::mr74::pitch::open_loop::{HISTORY_SAMPLES, MINIMUM_LAG, product};
+    EXPRESSION})
 }
 ",
     },

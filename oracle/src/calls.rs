@@ -1,12 +1,13 @@
-//! Calls of the search: the lists, the lags and the subframe of one call, a feed of them, and
-//! the faults that make a call refused.
+//! Calls of the search: the lists, the lags and the subframe of one call, those of a feed, and the
+//! faults that make a call refused.
 
 use crate::{
+    feed::{self, Record},
     inputs::Random,
     subframes::{Refusal, check_lengths},
     words::{EXCITATION, SUBFRAME, shortened},
 };
-use std::{fmt, fs, io, path::Path};
+use std::fmt;
 
 /// What one place in a chain does.
 #[derive(Clone, Debug)]
@@ -114,39 +115,19 @@ impl fmt::Debug for Call {
     }
 }
 
-/// The resets and the searches of a feed, none where there is no such file.
-pub fn read_feed(path: &Path) -> io::Result<Vec<Step>> {
-    /// The length of a body by the record's kind.
-    const BODIES: [usize; 7] = [0, 160, 551, 163, 245, 184, 2];
-    const NOT_A_FEED: &str = "a feed with a bad kind or an incomplete record";
-    let feed = match fs::read(path) {
-        Err(error) if error.kind() == io::ErrorKind::NotFound => Vec::new(),
-        feed => feed?,
-    };
-    let mut steps = Vec::new();
-    let mut rest = feed.as_slice();
-    while let Some((&kind, after)) = rest.split_first() {
-        let length = BODIES.get(usize::from(kind)).copied();
-        let (body, after) = length
-            .and_then(|length| after.split_at_checked(length))
-            .ok_or(io::Error::other(NOT_A_FEED))?;
-        match kind {
-            0 => steps.push(Step::Reset),
-            2 => steps.push(Step::Search(recorded(body))),
-            _ => {}
-        }
-        rest = after;
+/// The step of a feed's record: a reset or a search, no other.
+pub fn step(record: &Record) -> Option<Step> {
+    match record.kind {
+        0 => Some(Step::Reset),
+        2 => Some(Step::Search(recorded(&record.body))),
+        _ => None,
     }
-    Ok(steps)
 }
 
 /// The call of a pitch record: subframe, excitation, target, impulse response, two lags.
 fn recorded(body: &[u8]) -> Call {
     let (words, lags) = body[1..].split_at(2 * (EXCITATION + 2 * SUBFRAME));
-    let words: Vec<i16> = words
-        .chunks(2)
-        .map(|pair| i16::from_be_bytes([pair[0], pair[1]]))
-        .collect();
+    let words = feed::words(words);
     let (excitation, rest) = words.split_at(EXCITATION);
     let (target, impulse) = rest.split_at(SUBFRAME);
     Call {

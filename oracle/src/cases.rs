@@ -1,8 +1,8 @@
 //! The cases that the comparison of the search must meet, found from the values inside the
 //! published search.
 //!
-//! The published functions do not tell where they clip, so their sums are done once more here, in
-//! 64 bits, and what comes out is asserted to be what they answer.
+//! Its sums are done once more here, and what comes out is asserted to be what the published
+//! functions answer.
 
 use crate::{
     calls::Lists,
@@ -13,8 +13,9 @@ use crate::{
             normalized_correlation, product,
         },
     },
-    compare::Line,
+    counts::{Found, cases},
     subframes::{Refusal, window},
+    sums::{Sum, clip32},
     words::{HISTORY, SUBFRAME},
 };
 
@@ -23,17 +24,6 @@ const BESIDE_WINDOW: usize = 4;
 const MAX_FRACTIONAL_LAG: usize = 84;
 const ENERGY_LIMIT: i32 = 1 << 26;
 const CORRELATIONS: usize = 148;
-
-macro_rules! cases {
-    ($($case:ident => $text:literal,)+) => {
-        #[derive(Clone, Copy)]
-        pub enum Case {
-            $($case,)+
-        }
-
-        const TEXTS: &[(Case, &str)] = &[$((Case::$case, $text),)+];
-    };
-}
 
 cases! {
     Uniform => "search of uniform words",
@@ -84,94 +74,20 @@ cases! {
     Refusal4 => "refusal 4",
 }
 
-// `Found` has a bit for each.
-const _: () = assert!(TEXTS.len() <= 64);
-
-/// How many calls met each case.
-pub struct Cases([u64; TEXTS.len()]);
-
-impl Cases {
-    pub fn new() -> Self {
-        Self([0; TEXTS.len()])
-    }
-
-    pub fn count(&mut self, case: Case) {
-        self.0[case as usize] += 1;
-    }
-
-    pub fn count_refusal(&mut self, refusal: Refusal) {
-        self.count(match refusal.number {
-            1 => Case::Refusal1,
-            2 => Case::Refusal2,
-            3 => Case::Refusal3,
-            _ => Case::Refusal4,
-        });
-    }
-
-    /// Counts the cases of an accepted search, once each.
-    pub fn count_search(&mut self, searched: &Searched<'_>) {
-        let mut found = Found(0);
-        searched.find_cases(&mut found);
-        for &(case, _) in TEXTS {
-            self.0[case as usize] += found.0 >> case as u64 & 1;
+impl Case {
+    pub fn of_refusal(refusal: Refusal) -> Self {
+        match refusal.number {
+            1 => Self::Refusal1,
+            2 => Self::Refusal2,
+            3 => Self::Refusal3,
+            _ => Self::Refusal4,
         }
     }
 
-    pub fn add(&mut self, part: Cases) {
-        for (count, part) in self.0.iter_mut().zip(part.0) {
-            *count += part;
-        }
+    /// Whether only a feed can meet the case.
+    pub fn needs_feed(self) -> bool {
+        matches!(self, Self::Feed | Self::ChangedFeed)
     }
-
-    /// Without a feed its cases are not asked for.
-    pub fn line(&self, with_feed: bool) -> Line {
-        let asked = |case| with_feed || !matches!(case, Case::Feed | Case::ChangedFeed);
-        Line::of_cases(
-            TEXTS
-                .iter()
-                .filter(|&&(case, _)| asked(case))
-                .map(|&(case, text)| (text, self.0[case as usize])),
-        )
-    }
-}
-
-/// The cases that one search met, a bit each.
-struct Found(u64);
-
-impl Found {
-    fn case(&mut self, case: Case, met: bool) {
-        self.0 |= u64::from(met) << case as u64;
-    }
-}
-
-/// A sum that is clipped after each addition, beside the sum that is not.
-#[derive(Default)]
-struct Sum {
-    clipped: i32,
-    exact: i64,
-    clips: bool,
-}
-
-impl Sum {
-    fn of(terms: impl IntoIterator<Item = i32>) -> Self {
-        let mut sum = Self::default();
-        for term in terms {
-            let next = i64::from(sum.clipped) + i64::from(term);
-            sum.clipped = clip32(next);
-            sum.clips |= i64::from(sum.clipped) != next;
-            sum.exact += i64::from(term);
-        }
-        sum
-    }
-
-    /// Whether clipping only at the end would give another sum.
-    fn clips_early(&self) -> bool {
-        self.clipped != clip32(self.exact)
-    }
-}
-
-fn clip32(value: i64) -> i32 {
-    value.clamp(i32::MIN.into(), i32::MAX.into()) as i32
 }
 
 /// The high word of a long shifted to the left, and whether the shift clipped.
@@ -192,7 +108,13 @@ pub struct Searched<'a> {
 }
 
 impl Searched<'_> {
-    fn find_cases(&self, found: &mut Found) {
+    pub fn cases(&self) -> Found<Case> {
+        let mut found = Found::new();
+        self.find_cases(&mut found);
+        found
+    }
+
+    fn find_cases(&self, found: &mut Found<Case>) {
         let absolute = self.subframe.absolute();
         found.case(Case::Absolute, absolute);
         found.case(Case::Relative, !absolute);
@@ -216,7 +138,7 @@ impl Searched<'_> {
     }
 
     /// The cases of the answer, which is so many thirds of a sample.
-    fn find_answer_cases(&self, found: &mut Found, thirds: i16) {
+    fn find_answer_cases(&self, found: &mut Found<Case>, thirds: i16) {
         let SearchedPitch { lag, index } = self.answer;
         let answered = 3 * lag.samples() as i16 + lag.fraction().thirds();
         assert_eq!(thirds, answered, "the lag that is found here");
@@ -230,7 +152,12 @@ impl Searched<'_> {
     }
 
     /// The correlations of these lags.
-    fn correlation(&self, found: &mut Found, first: usize, last: usize) -> [i16; CORRELATIONS] {
+    fn correlation(
+        &self,
+        found: &mut Found<Case>,
+        first: usize,
+        last: usize,
+    ) -> [i16; CORRELATIONS] {
         let mut filter = Filter::new(found, self.lists, first);
         let mut correlation = [0; CORRELATIONS];
         for (lag, value) in correlation.iter_mut().enumerate().take(last).skip(first) {
@@ -257,13 +184,13 @@ struct Filter<'a> {
 }
 
 impl<'a> Filter<'a> {
-    fn new(found: &mut Found, lists: Lists<'a>, lag: usize) -> Self {
+    fn new(found: &mut Found<Case>, lists: Lists<'a>, lag: usize) -> Self {
         let input = &lists.excitation[HISTORY - lag..][..SUBFRAME];
         let words = std::array::from_fn(|place| {
             let response = lists.impulse[..=place].iter().rev();
             let sum = Sum::of(input.iter().zip(response).map(|(&x, &h)| product(x, h)));
             let (word, clips) = high_of_shifted(sum.clipped, 3);
-            found.case(Case::ConvolutionClip, sum.clips);
+            found.case(Case::ConvolutionClip, sum.clips());
             found.case(Case::ConvolutionEarly, sum.clips_early());
             found.case(Case::ConvolutionShift, clips);
             word
@@ -285,17 +212,17 @@ impl<'a> Filter<'a> {
         filter
     }
 
-    fn energy(&self, found: &mut Found) -> i32 {
+    fn energy(&self, found: &mut Found<Case>) -> i32 {
         let sum = Sum::of(self.words.iter().map(|&word| product(word, word)));
-        found.case(Case::EnergyClip, sum.clips);
+        found.case(Case::EnergyClip, sum.clips());
         sum.clipped
     }
 
-    fn correlation(&self, found: &mut Found) -> i16 {
+    fn correlation(&self, found: &mut Found<Case>) -> i16 {
         let energy = self.energy(found);
         let pairs = self.words.iter().zip(self.lists.target);
         let sum = Sum::of(pairs.map(|(&word, &target)| product(word, target)));
-        found.case(Case::TargetClip, sum.clips);
+        found.case(Case::TargetClip, sum.clips());
         found.case(Case::TargetEarly, sum.clips_early());
         let value = multiply(sum.clipped & !1, inverse_sqrt(energy) & !1);
         let (word, clips) = high_of_shifted(value, 16);
@@ -304,7 +231,7 @@ impl<'a> Filter<'a> {
     }
 
     /// Goes on to the next lag, at which the word of the excitation at this place comes first.
-    fn update(&mut self, found: &mut Found, place: usize) {
+    fn update(&mut self, found: &mut Found<Case>, place: usize) {
         let first = self.lists.excitation[place];
         for j in (1..SUBFRAME).rev() {
             let term = product(first, self.lists.impulse[j]);
@@ -324,7 +251,7 @@ impl<'a> Filter<'a> {
 }
 
 /// The fraction that the search chooses at this lag, -2 to 2.
-fn fraction(found: &mut Found, correlation: &[i16; CORRELATIONS], lag: usize) -> i16 {
+fn fraction(found: &mut Found<Case>, correlation: &[i16; CORRELATIONS], lag: usize) -> i16 {
     let values = [-2, -1, 0, 1, 2].map(|fraction| interpolated(found, correlation, lag, fraction));
     let most = *values.iter().max().expect("five fractions");
     let ties = values.iter().filter(|&&value| value == most).count();
@@ -337,7 +264,7 @@ fn fraction(found: &mut Found, correlation: &[i16; CORRELATIONS], lag: usize) ->
 }
 
 fn interpolated(
-    found: &mut Found,
+    found: &mut Found<Case>,
     correlation: &[i16; CORRELATIONS],
     lag: usize,
     fraction: i16,
@@ -357,7 +284,7 @@ fn interpolated(
         ]
     }));
     let rounded = sum.clipped.checked_add(1 << 15);
-    found.case(Case::InterpolationClip, sum.clips);
+    found.case(Case::InterpolationClip, sum.clips());
     found.case(Case::InterpolationEarly, sum.clips_early());
     found.case(Case::RoundingClip, rounded.is_none());
     let value = (rounded.unwrap_or(i32::MAX) >> 16) as i16;

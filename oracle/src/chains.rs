@@ -7,7 +7,9 @@ use crate::{
     inputs::Random,
     speech::Speech,
     subframes::{number, window},
-    words::{EXCITATION, HISTORY, SUBFRAME, extreme, impulse_response, mixed, quiet, uniform},
+    words::{
+        EXCITATION, HISTORY, SUBFRAME, extreme, impulse_response, mixed, quiet, smooth, uniform,
+    },
 };
 
 /// The places of a chain that is not the feed's.
@@ -236,13 +238,6 @@ fn wished_words(random: &mut Random, [start, end]: [usize; 2]) -> Words {
         word.clamp(i16::MIN.into(), i16::MAX.into()) as i16
     });
     (excitation, target, impulse)
-}
-
-/// Each word becomes the mean of itself and the next.
-fn smooth(words: &mut [i16]) {
-    for place in 1..words.len() {
-        words[place - 1] = words[place - 1].midpoint(words[place]);
-    }
 }
 
 /// Words whose energy at the first lag is 2^26, one step above or one step below.

@@ -1,15 +1,18 @@
 //! Compares the library with the published Rust and reports where their answers differ.
 //!
 //! Every input is compared where a function has at most 2^32 of them; of the others the
-//! combinations of the ends of the argument types and a fixed pseudo-random sample. The search has
-//! a state, so it is compared in chains of calls.
+//! combinations of the ends of the argument types and a fixed pseudo-random sample. The search and
+//! the detector have a state, so they are compared in chains of calls.
 
 mod calls;
 mod cases;
 mod chains;
 mod compare;
+mod counts;
+mod feed;
 mod inputs;
 mod lists;
+mod open_loop;
 mod operators;
 mod project;
 mod published;
@@ -19,6 +22,7 @@ mod search;
 mod speech;
 mod speed;
 mod subframes;
+mod sums;
 mod words;
 
 // The published files name each other by `crate::codec`.
@@ -32,7 +36,7 @@ use std::{
 };
 
 const USAGE: &str = "usage: oracle [compare NAME.. | record [FOLDER] | speed]";
-const RECORD_FOLDER: &str = concat!(env!("CARGO_MANIFEST_DIR"), "/../crates/replay");
+const RECORD_FOLDER: &str = concat!(env!("CARGO_MANIFEST_DIR"), "/../crates");
 
 const DIFFERENT: u8 = 1;
 const UNUSABLE: u8 = 2;
@@ -43,8 +47,8 @@ fn main() -> ExitCode {
     let done = match words.as_slice() {
         [] => compare_functions(&[]),
         ["compare", names @ ..] => compare_functions(names),
-        ["record"] => record_sample(RECORD_FOLDER),
-        ["record", folder] => record_sample(folder),
+        ["record"] => record_samples(RECORD_FOLDER),
+        ["record", folder] => record_samples(folder),
         ["speed"] => {
             speed::report();
             Ok(ExitCode::SUCCESS)
@@ -63,6 +67,7 @@ fn compare_functions(names: &[&str]) -> Result<ExitCode, String> {
     functions.extend(lists::functions());
     functions.extend(reader::functions());
     functions.extend(search::functions());
+    functions.extend(open_loop::functions());
     for name in names {
         if !functions.iter().any(|function| function.name == *name) {
             let mut known: Vec<_> = functions.iter().map(|function| function.name).collect();
@@ -91,8 +96,17 @@ fn compare_functions(names: &[&str]) -> Result<ExitCode, String> {
     })
 }
 
-fn record_sample(folder: &str) -> Result<ExitCode, String> {
-    let records = record::write(Path::new(folder)).map_err(|error| format!("{folder}: {error}"))?;
-    println!("{records} recorded");
+/// Writes each replay program's sample to the program's folder below this one.
+fn record_samples(folder: &str) -> Result<ExitCode, String> {
+    type Write = fn(&Path) -> io::Result<usize>;
+    let samples: [(&str, Write); 2] = [
+        ("replay", record::write),
+        ("replay_open_loop", open_loop::record::write),
+    ];
+    for (program, write) in samples {
+        let folder = Path::new(folder).join(program);
+        let records = write(&folder).map_err(|error| format!("{}: {error}", folder.display()))?;
+        println!("{program} {records} recorded");
+    }
     Ok(ExitCode::SUCCESS)
 }

@@ -90,6 +90,15 @@ pub struct LengthAnswer {
     pub magnitude: u64,
 }
 
+/// The number of the refusal, 0 where accepted, with the wrong length; and the lag, 0 where refused.
+#[repr(C)]
+#[derive(Debug, Clone, Copy, PartialEq, Eq)]
+pub struct OpenLoopAnswer {
+    pub number: u8,
+    pub magnitude: u64,
+    pub lag: u16,
+}
+
 // These take and give numbers alone, or borrow lists of a fixed length, and are defined on all
 // values of their types, so any call of them is safe.
 unsafe extern "C" {
@@ -154,6 +163,12 @@ unsafe extern "C" {
         second: u16,
         subframe: u8,
     ) -> PitchAnswer;
+    fn mr74_open_loop(
+        samples: *const i16,
+        samples_length: usize,
+        history: *mut i16,
+        history_length: usize,
+    ) -> OpenLoopAnswer;
 }
 
 pub fn convolve(input: &[i16], impulse_q12: &[i16], output: &mut [i16]) -> LengthAnswer {
@@ -191,6 +206,19 @@ pub fn pitch_search(
             first,
             second,
             subframe,
+        )
+    }
+}
+
+/// The detector's old words are lent, and updated there.
+pub fn open_loop(samples: &[i16], history: &mut [i16]) -> OpenLoopAnswer {
+    // SAFETY: each pointer is that of a list with the length beside it, borrowed for the call.
+    unsafe {
+        mr74_open_loop(
+            samples.as_ptr(),
+            samples.len(),
+            history.as_mut_ptr(),
+            history.len(),
         )
     }
 }

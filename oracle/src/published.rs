@@ -1,8 +1,9 @@
 //! The oracle's side: the published Rust, as the build script compiles it, and the few answers
 //! that no function of it gives.
 
-// Declares `codec`, and as functions the division inside `pitch_gain`, `pitch_gain_ratio`, and the
-// sums inside `normalized_correlation`, `energy40` and `dot40`.
+// Declares `codec`, and as functions the division inside `pitch_gain`, `pitch_gain_ratio`, the
+// sums inside `normalized_correlation`, `energy40` and `dot40`, and the steps inside the
+// detector's `push`, `open_loop_scaled` and `open_loop_correlation`.
 include!(concat!(env!("OUT_DIR"), "/published.rs"));
 
 use codec::mr74::{codebook::search::product, logarithm, pitch};

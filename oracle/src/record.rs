@@ -31,10 +31,15 @@ const POINTS: usize = 30;
 /// Writes the sample and gives its number of records.
 pub fn write(folder: &Path) -> io::Result<usize> {
     let sample = sample();
-    fs::create_dir_all(folder)?;
-    fs::write(folder.join("stdin"), &sample.stdin)?;
-    fs::write(folder.join("stdout"), &sample.stdout)?;
+    write_files(folder, &sample.stdin, &sample.stdout)?;
     Ok(sample.records)
+}
+
+/// Writes what a replay program reads and prints.
+pub fn write_files(folder: &Path, stdin: &[u8], stdout: &str) -> io::Result<()> {
+    fs::create_dir_all(folder)?;
+    fs::write(folder.join("stdin"), stdin)?;
+    fs::write(folder.join("stdout"), stdout)
 }
 
 struct Sample {

@@ -1,21 +1,19 @@
 //! The closed-loop search: chains of calls, where each side goes on from its own state.
 
 use crate::{
-    calls::{Call, Step, read_feed},
-    cases::{Case, Cases, Searched},
+    calls::{Call, Step, step},
+    cases::{Case, Searched},
     chains::Chain,
     codec::mr74::pitch::search::{OpenLoopLag, Search},
     compare::{Function, Line, in_threads},
+    counts::Cases,
+    feed,
     project::{PitchAnswer, PitchState, mr74_fresh_pitch, pitch_search},
     subframes::{Refusal, answer, state, subframe},
 };
-use std::{env, fmt, path::PathBuf};
+use std::fmt;
 
 const CHAINS: u64 = 24_000;
-const FEED: &str = concat!(
-    env!("CARGO_MANIFEST_DIR"),
-    "/../../shared/feeds/speech.feed"
-);
 
 pub fn functions() -> [Function; 1] {
     [Function {
@@ -28,7 +26,7 @@ pub fn functions() -> [Function; 1] {
 struct Tally {
     answers: Line,
     states: Line,
-    cases: Cases,
+    cases: Cases<Case>,
 }
 
 impl Tally {
@@ -82,13 +80,7 @@ impl Tally {
 }
 
 fn compare_chains() -> Vec<Line> {
-    let path = env::var_os("MR74_FEED").filter(|path| !path.is_empty());
-    let path = path.map_or(PathBuf::from(FEED), PathBuf::from);
-    let mut feed = read_feed(&path).unwrap_or_else(|error| panic!("{}: {error}", path.display()));
-    if !feed.iter().any(|step| matches!(step, Step::Search(_))) {
-        eprintln!("no feed with searches at {}: left out", path.display());
-        feed.clear();
-    }
+    let feed = feed::steps("searches", step, |step| matches!(step, Step::Search(_)));
     let mut tally = Tally::new();
     let parts = in_threads(CHAINS, Tally::new, |tally, chains| {
         for index in chains {
@@ -98,7 +90,8 @@ fn compare_chains() -> Vec<Line> {
     for part in parts {
         tally.add(part);
     }
-    let cases = tally.cases.line(!feed.is_empty());
+    let asked = |case: Case| !feed.is_empty() || !case.needs_feed();
+    let cases = Line::of_cases(tally.cases.counts(asked));
     vec![tally.answers, tally.states, cases]
 }
 
@@ -154,16 +147,16 @@ fn searched(state: PitchState, call: &Call) -> PitchAnswer {
 
 /// The published answer in the form of the library's. Its cases are counted, `case` with them if
 /// the call is accepted.
-fn expected(cases: &mut Cases, case: Case, search: &mut Search, call: &Call) -> PitchAnswer {
+fn expected(cases: &mut Cases<Case>, case: Case, search: &mut Search, call: &Call) -> PitchAnswer {
     let before = search.clone();
     let searched = published(&before, search, call);
     match &searched {
         Ok(searched) => {
             cases.count(case);
-            cases.count_search(searched);
+            cases.count_found(&searched.cases());
         }
         Err(refusal) => {
-            cases.count_refusal(*refusal);
+            cases.count(Case::of_refusal(*refusal));
             assert_eq!(
                 before, *search,
                 "a refusal leaves the published search alone"

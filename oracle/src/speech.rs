@@ -60,6 +60,16 @@ impl Speech {
         convolve(current.try_into().expect("a subframe"), &self.impulse)
     }
 
+    /// The next two subframes, filtered.
+    pub fn half_frame(&mut self, random: &mut Random) -> [i16; 2 * SUBFRAME] {
+        let mut words = [0; 2 * SUBFRAME];
+        for subframe in words.chunks_mut(SUBFRAME) {
+            self.advance(random);
+            subframe.copy_from_slice(&self.target());
+        }
+        words
+    }
+
     /// A lag about the pulses' distance, at times about its half or its double.
     pub fn open_loop(&self, random: &mut Random) -> u16 {
         let lag = match random.below(16) {

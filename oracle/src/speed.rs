@@ -7,10 +7,12 @@ use crate::{
         logarithm,
         pitch::{
             self,
+            open_loop::Detector,
             search::{OpenLoopLag, Search, SearchedPitch},
         },
     },
     inputs::{Argument, Random},
+    open_loop::{HALF_FRAME, HISTORY},
     project::*,
     published,
     speech::Speech,
@@ -71,6 +73,7 @@ pub fn report() {
     for (kind, loud) in [("quiet speech", false), ("loud words", true)] {
         report_lists(kind, loud);
     }
+    report_pushes();
 }
 
 fn report_operators() {
@@ -221,4 +224,74 @@ fn published_search(call: &Call) -> (SearchedPitch, Search) {
         call.before.next,
     );
     (answer.expect("a call in order"), search)
+}
+
+/// A push, for both sides.
+struct Push {
+    before: Detector,
+    samples: [i16; HALF_FRAME],
+}
+
+impl Push {
+    /// The energy of all words, not clipped.
+    fn energy(&self) -> i64 {
+        let words = self.before.history_q0.iter().chain(&self.samples);
+        words.map(|&word| 2 * i64::from(word).pow(2)).sum()
+    }
+}
+
+/// A chain of pushes of words that resemble speech, their highest pulses of so many bits; where
+/// none are given, of uniform words.
+fn pushes(bits: Option<u32>) -> Vec<Push> {
+    let random = &mut Random::at(0);
+    let mut speech = bits.map(|bits| Speech::new(random, bits));
+    let mut detector = Detector::default();
+    let mut pushes = Vec::new();
+    while pushes.len() < LISTS {
+        let samples = match &mut speech {
+            Some(speech) => speech.half_frame(random),
+            None => uniform(random),
+        };
+        let push = Push {
+            before: detector.clone(),
+            samples,
+        };
+        (_, detector) = published_push(&push);
+        pushes.push(push);
+    }
+    pushes
+}
+
+/// Words of the three loudnesses by which the push shifts them left, not at all, or right.
+fn report_pushes() {
+    const LOW: i64 = 1 << 20;
+    const CLIP: i64 = (1 << 31) - 1;
+    for (kind, bits, energies) in [
+        ("quiet speech", Some(5), 0..LOW),
+        ("medium speech", Some(11), LOW..CLIP),
+        ("full-scale words", None, CLIP..i64::MAX),
+    ] {
+        let pushes = pushes(bits);
+        let right = pushes.iter().all(|push| energies.contains(&push.energy()));
+        assert!(right, "words of another loudness than {kind}");
+        let pushes: Vec<_> = pushes.iter().collect();
+        let name = format!("open_loop ({kind})");
+        measure(&name, &pushes, library_push, published_push);
+    }
+}
+
+/// The answer, and the history after it.
+#[inline(never)]
+fn library_push(push: &Push) -> (OpenLoopAnswer, [i16; HISTORY]) {
+    let mut history = push.before.history_q0;
+    let answer = open_loop(&push.samples, &mut history);
+    (answer, history)
+}
+
+/// The lag, and the detector after it.
+#[inline(never)]
+fn published_push(push: &Push) -> (OpenLoopLag, Detector) {
+    let mut detector = push.before.clone();
+    let lag = detector.push(&push.samples);
+    (lag, detector)
 }

@@ -111,6 +111,13 @@ pub fn mixed<const N: usize>(random: &mut Random) -> [i16; N] {
     }
 }
 
+/// Each word becomes the mean of itself and the next.
+pub fn smooth(words: &mut [i16]) {
+    for place in 1..words.len() {
+        words[place - 1] = words[place - 1].midpoint(words[place]);
+    }
+}
+
 /// The response of a filter with two poles to a pulse of 4096, which stands for 1.
 pub fn impulse_response(random: &mut Random) -> [i16; SUBFRAME] {
     const ONE: i64 = 4096;

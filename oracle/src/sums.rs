@@ -1,0 +1,39 @@
+//! Sums of 32 bits that are clipped after each addition. The published functions do not tell where
+//! they clip, so their sums are done once more, in 64 bits.
+
+/// A sum that is clipped after each addition, beside the sum that is not.
+#[derive(Default)]
+pub struct Sum {
+    pub clipped: i32,
+    pub exact: i64,
+    /// Whether an addition was clipped at the upper end, and at the lower.
+    pub clips_above: bool,
+    pub clips_below: bool,
+}
+
+impl Sum {
+    pub fn of(terms: impl IntoIterator<Item = i32>) -> Self {
+        let mut sum = Self::default();
+        for term in terms {
+            let next = i64::from(sum.clipped) + i64::from(term);
+            sum.clipped = clip32(next);
+            sum.clips_above |= next > i64::from(sum.clipped);
+            sum.clips_below |= next < i64::from(sum.clipped);
+            sum.exact += i64::from(term);
+        }
+        sum
+    }
+
+    pub fn clips(&self) -> bool {
+        self.clips_above || self.clips_below
+    }
+
+    /// Whether clipping only at the end would give another sum.
+    pub fn clips_early(&self) -> bool {
+        self.clipped != clip32(self.exact)
+    }
+}
+
+pub fn clip32(value: i64) -> i32 {
+    value.clamp(i32::MIN.into(), i32::MAX.into()) as i32
+}
