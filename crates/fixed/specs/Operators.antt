@@ -1,6 +1,6 @@
 -- The basic operators of TS 26.073 (basic_op.h, oper_32b.h) by their names there, each as one number of the integers.
 -- `shrZ z m` is floor (z / m), `natAbs z` is |z|.
-use Prim.Native.Nat.{ℕ, zero, suc, _+_, _-_, _*_, _/_, _%_, _^_, min}
+use Prim.Native.Nat.{ℕ, zero, suc, _-_, _*_, _/_, _%_, _^_, min}
 use lib.Count.{leadingZeros}
 use lib.IntN.{ℤ, pos, negsuc, negℤ, natAbs, _+ℤ_, _-ℤ_, _*ℤ_}
 use lib.Signed.{shrZ}

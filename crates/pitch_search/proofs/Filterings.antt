@@ -1,14 +1,13 @@
 -- Loops that fill a list: the words of an update, the correlations lag by lag, Convolve's sums side by side.
-use mathlib.Core.Path.{_≡_, refl, ap, sym, _∙_}
-use mathlib.Core.Bool.{Bool, true, false, cond, _&&_}
+use mathlib.Core.Path.{_≡_, refl, ap, _∙_}
+use mathlib.Core.Bool.{Bool, true, false, cond}
 use mathlib.Core.List.{List}
-use Prim.Native.Nat.{ℕ, zero, suc, _+_, _-_, _≤_, _<_, min}
+use Prim.Native.Nat.{ℕ, zero, suc, _+_, _-_, _≤_, min}
 use native.Mathlib.Omega.{arith}
-use lib.Dec.{ltb, leb, eqb}
+use lib.Dec.{leb}
 use lib.IntN.{ℤ, pos}
-use lib.ListN.{length, getD, set, replicate, getD-replicate}
-use lib.Seq.{getD-set-same, getD-set-other}
-use borrow.Author.Tests.{le-leb, lt-ltb, le-ltb, leb-true, leb-false, ltb-true, ltb-false, eqb-true, eqb-false}
+use lib.ListN.{length, replicate}
+use borrow.Author.Tests.{lt-ltb, leb-false}
 use Rattle.fixed.specs.Operators.{add, L-mult, L-mac, L-shl, extract-h}
 use Rattle.fixed.specs.Lists.{at, between, L-sum}
 use Rattle.fixed.proofs.Lists.{length-tabulate, Filled, zeros}

@@ -1,4 +1,4 @@
-use Prim.Native.Nat.{_-_, _≤_, min}
+use Prim.Native.Nat.{_≤_, min}
 use Rattle.fixed.proofs.Bounds.{ok, signed, fits-16-32, product-32, shift-fits}
 use mir.Syntax.{w16}
 use mathlib.Core.Path.{_∙_}

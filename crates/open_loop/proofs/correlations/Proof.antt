@@ -1,16 +1,14 @@
 use Rattle.open_loop.proofs.Lags.{Placed, placed-next}
 use Rattle.open_loop.specs.declared.Four.{Four}
-use lib.ListN.{set}
-use mathlib.Core.Path.{ap}
-use mathlib.Core.Path.{_≡_, refl, _∙_}
-use Prim.Native.Nat.{ℕ, _≤_, _-_, _+_, _%_}
+use lib.ListN.{set, replicate}
+use mathlib.Core.Path.{ap, _≡_, refl}
+use Prim.Native.Nat.{_≤_, _-_, _+_, _%_}
 use lib.IntN.{ℤ, pos}
-use lib.ListN.{length, length-set, replicate}
 use mir.Syntax.{w32}
 use mir.Val.{toZ, ofZ}
 use Rattle.fixed.specs.Lists.{between}
 use Rattle.fixed.proofs.Bounds.{got}
-use Rattle.fixed.proofs.Lists.{Filled, filled-all, none-placed, zeros, placed-more}
+use Rattle.fixed.proofs.Lists.{filled-all, none-placed, zeros}
 use Rattle.open_loop.specs.Sections.{correlation}
 use borrow.Author.Needs.{needs}
 use native.Mathlib.Omega.{arith}

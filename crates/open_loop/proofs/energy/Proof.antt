@@ -1,10 +1,8 @@
 use Rattle.open_loop.proofs.Lags.{products-more}
 use mathlib.Core.Path.{_≡_, refl}
 use Prim.Native.Nat.{_≤_, _-_, _+_}
-use native.Mathlib.Numerals.{add-one}
 use mir.Syntax.{w16, w32}
 use mir.Val.{toZ}
-use Rattle.fixed.specs.Operators.{L-mac}
 use Rattle.fixed.specs.Lists.{L-sum}
 use Rattle.fixed.proofs.Bounds.{got}
 use Rattle.open_loop.specs.Sections.{products}

@@ -1,15 +1,11 @@
 use Rattle.open_loop.proofs.Lags.{products-more}
 use Rattle.fixed.proofs.Bounds.{got}
-use Rattle.fixed.specs.Lists.{at}
-use mir.Val.{ofZ}
-use mathlib.Core.Path.{ap}
-use Rattle.open_loop.specs.Sections.{correlation}
-use mathlib.Core.Path.{_≡_, refl}
+use Rattle.fixed.specs.Lists.{at, L-sum}
+use mir.Val.{ofZ, toZ}
+use mathlib.Core.Path.{ap, _≡_, refl}
+use Rattle.open_loop.specs.Sections.{correlation, products}
 use Prim.Native.Nat.{_≤_, _-_, _+_}
 use mir.Syntax.{w16, w32}
-use mir.Val.{toZ}
-use Rattle.fixed.specs.Lists.{L-sum}
-use Rattle.open_loop.specs.Sections.{products}
 use borrow.Author.Needs.{needs}
 use native.Mathlib.Omega.{arith}
 use Rattle.open_loop.proofs.four_at.Statement.{statement}

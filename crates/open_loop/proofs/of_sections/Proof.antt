@@ -1,9 +1,7 @@
-use Rattle.open_loop.specs.Sections.{held-at}
-use mathlib.Core.Path.{_≡_}
+use Rattle.open_loop.specs.Sections.{held-at, Lag-max, favoured, of-sections}
+use mathlib.Core.Path.{_≡_, ap}
 use Rattle.open_loop.proofs.Lags.{favoured-held}
-use Rattle.open_loop.specs.Sections.{Lag-max, favoured, of-sections}
 use Rattle.open_loop.specs.declared.Held.{Held}
-use mathlib.Core.Path.{ap}
 use borrow.Author.Needs.{needs}
 use Rattle.open_loop.proofs.of_sections.Statement.{statement}
 use Rattle.open_loop.proofs.of_sections.Tie as tie

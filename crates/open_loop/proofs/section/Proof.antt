@@ -1,14 +1,12 @@
-use Rattle.open_loop.specs.Sections.{Lag-max}
+use Rattle.open_loop.specs.Sections.{Lag-max, delayed-energy, value-at}
 use Rattle.fixed.proofs.Choices.{best-in}
 use Rattle.fixed.specs.Lists.{at}
 use lib.Signed.{ltZ}
 use native.Mathlib.Omega.{arith}
-use mathlib.Core.Path.{_∙_}
-use mathlib.Core.Path.{_≡_, refl}
+use mathlib.Core.Path.{_∙_, _≡_, refl}
 use Prim.Native.Nat.{_≤_}
 use mir.Syntax.{w16, w32}
 use Rattle.fixed.proofs.Bounds.{got}
-use Rattle.open_loop.specs.Sections.{correlation, delayed-energy, value-at}
 use Rattle.open_loop.proofs.Lags.{at-lag, lag-max-table, lag-max-in}
 use borrow.Author.Needs.{needs}
 use Rattle.open_loop.proofs.section.Statement.{statement}

@@ -1,10 +1,8 @@
 use Rattle.pitch_search.proofs.Filterings.{convolve-length}
-use Rattle.pitch_search.specs.Filters.{Convolve}
-use Rattle.fixed.proofs.Lists.{copied-whole}
+use Rattle.pitch_search.specs.Filters.{Convolve, convolve}
+use Rattle.fixed.proofs.Lists.{copied-whole, part-whole}
 use mathlib.Core.Path.{_≡_}
 use borrow.Author.Tests.{eq-eqb, ne-eqb}
-use Rattle.fixed.proofs.Lists.{part-whole}
-use Rattle.pitch_search.specs.Filters.{convolve}
 use borrow.Author.Needs.{needs}
 use Rattle.pitch_search.proofs.convolve.Statement.{statement}
 use Rattle.pitch_search.proofs.convolve.Tie as tie

@@ -1,11 +1,8 @@
 use native.Mathlib.Omega.{arith}
-use Prim.Native.Nat.{_*_}
-use lib.ListN.{replicate}
+use Prim.Native.Nat.{_*_, _≤_, _-_}
+use lib.ListN.{replicate, length}
 use lib.Seq.{length-take-le}
-use mathlib.Core.Path.{sym}
-use lib.ListN.{length}
-use mathlib.Core.Path.{_≡_}
-use Prim.Native.Nat.{_≤_, _-_}
+use mathlib.Core.Path.{sym, _≡_}
 use borrow.Author.Needs.{needs}
 use Rattle.replay_open_loop.proofs.pushed.Statement.{statement}
 use Rattle.replay_open_loop.proofs.pushed.Tie as tie

@@ -1,9 +1,8 @@
-use Rattle.open_loop.specs.Detectors.{joined}
+use Rattle.open_loop.specs.Detectors.{joined, Pitch-ol}
 use Rattle.open_loop.specs.Sections.{lag-of}
 use Rattle.open_loop.proofs.Lags.{lag-in}
 use Prim.Native.Nat.{_≤_}
 use native.Mathlib.Omega.{arith}
-use Rattle.open_loop.specs.Detectors.{Pitch-ol}
 use borrow.Author.Tests.{ne-eqb, eq-eqb, le-leb}
 use borrow.Author.Needs.{needs}
 use Rattle.open_loop.proofs.Detector.push.Statement.{statement}
