@@ -9,5 +9,6 @@ pub mod Tables
 pub mod Lists
 pub mod Sums
 pub mod Choices
+pub mod Plain
 pub mod Products
 pub mod LowBits

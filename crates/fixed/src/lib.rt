@@ -331,7 +331,7 @@ fn square(v: i16) -> u32
     exact(v, v) as u32
 }
 
-fn exact(a: i16, b: i16) -> i32
+pub fn exact(a: i16, b: i16) -> i32
     ensures { λ r. ⌜ r ≡ a *ℤ b ⌝ }
 {
     a as i32 * b as i32

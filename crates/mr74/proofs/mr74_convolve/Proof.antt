@@ -1,9 +1,10 @@
 use borrow.Author.Needs.{needs}
 use Rattle.mr74.proofs.mr74_convolve.Statement.{statement}
 use Rattle.mr74.proofs.mr74_convolve.Tie as tie
+use Rattle.mr74.proofs.length_refused.Reads as length-refused-reads
 
 convolve-requires : tie.Need-convolve-requires
-convolve-requires c κs = tt
+convolve-requires c κs = search needs
 
 enum-told : tie.Need-enum-told
 enum-told c = search needs
@@ -11,11 +12,8 @@ enum-told c = search needs
 enum-known-refusal : tie.Need-enum-known-refusal
 enum-known-refusal c = search needs
 
-detail-requires : tie.Need-detail-requires
-detail-requires c κs = tt
-
-number-requires : tie.Need-number-requires
-number-requires c κs = tt
+length-refused-requires : tie.Need-length-refused-requires
+length-refused-requires c κs = search needs
 
 same-length : tie.Need-same-length
 same-length c = search needs
@@ -30,9 +28,9 @@ same-length-2 c = search needs
 
 returns-2 : tie.Need-returns-2
 returns-2 c =
-    let f = c .before .before .before in
+    let f = c .before .before in
     let v = f .before .before .before in
-    (rw (← (v .convolve .ensures .0), f .refusal .given .1, c .number .ensures, c .before .detail .ensures), v .convolve .ensures .1)
+    (rw (← (v .convolve .ensures .0), f .refusal .given .1) (c .length-refused .ensures), v .convolve .ensures .1)
 
 pub mr74-convolve-spec : {M : Type 1} → statement M
 mr74-convolve-spec =
@@ -41,8 +39,7 @@ mr74-convolve-spec =
     convolve-requires
     enum-told
     enum-known-refusal
-    detail-requires
-    number-requires
+    length-refused-requires
     same-length
     returns
     same-length-2

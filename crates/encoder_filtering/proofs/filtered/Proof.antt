@@ -1,0 +1,99 @@
+use mathlib.Core.Path.{_≡_, refl, _∙_}
+use Prim.Native.Nat.{ℕ, _≤_, _-_}
+use lib.IntN.{ℤ, pos}
+use lib.ListN.{length, length-set}
+use mir.Syntax.{w16, w32}
+use mir.Val.{toZ, ofZ}
+use Rattle.fixed.proofs.Bounds.{got}
+use Rattle.fixed.specs.Lists.{at, tabulate}
+use Rattle.fixed.proofs.Lists.{at-tabulate, Filled, filled-more, filled-all}
+use Rattle.encoder_filtering.specs.Filters.{taps-to, residual-at, Residu}
+use borrow.Author.Needs.{needs}
+use native.Mathlib.Omega.{arith}
+use Rattle.encoder_filtering.proofs.filtered.Statement.{statement}
+use Rattle.encoder_filtering.proofs.filtered.Tie as tie
+use Rattle.encoder_filtering.proofs.tap_sums.Reads as tap-sums-reads
+
+abbrev Inv-loop : tie.InvT-loop
+Inv-loop coefficients samples sums residual₀ i₀ residual i = (sums ≡ tabulate (λ k. taps-to coefficients samples k 11) 40) × (i ≤ 40) × (length residual ≡ 40) × Filled (residual-at coefficients samples) (pos 0) i residual
+
+abbrev μ-loop : tie.MeasureT-loop
+μ-loop coefficients samples sums residual₀ i₀ residual i = 40 - i
+
+tap-sums-requires : tie.Need-tap-sums-requires Inv-loop μ-loop
+tap-sums-requires c κs = c .pre
+
+loop-holds : tie.Need-loop-holds Inv-loop μ-loop
+loop-holds c = (c .tap-sums .ensures, omega arith, refl, λ k l. absurd (omega arith))
+
+mul-shift : tie.Need-mul-shift Inv-loop μ-loop
+mul-shift c = search needs
+
+array-copy-out-shift : tie.Need-array-copy-out-shift Inv-loop μ-loop
+array-copy-out-shift c = search needs
+
+shift-requires : tie.Need-shift-requires Inv-loop μ-loop
+shift-requires c κs = tt
+
+rounded-requires : tie.Need-rounded-requires Inv-loop μ-loop
+rounded-requires c κs = tt
+
+mul-residual : tie.Need-mul-residual Inv-loop μ-loop
+mul-residual c = search needs
+
+array-set-from-residual : tie.Need-array-set-from-residual Inv-loop μ-loop
+array-set-from-residual c = search needs
+
+add-i : tie.Need-add-i Inv-loop μ-loop
+add-i c = search needs
+
+loop-less : tie.Need-loop-less Inv-loop μ-loop
+loop-less c = search needs
+
+loop-again : tie.Need-loop-again Inv-loop μ-loop
+unfolding residual-at
+loop-again c =
+    let f = c .before in
+    let s = f .before .before .before in
+    let a = s .before .before .args in
+    let i = s .loop .i in
+    let g : ℕ → ℤ = residual-at (a .coefficients .now) (a .samples .now) in
+    let sums = s .before .tap-sums .result in
+    let v : ℤ = toZ w16 (ofZ w16 (c .rounded .result)) in
+    let x : toZ w32 (ofZ w32 (at sums i)) ≡ at sums i = got w32 (f .before .shift-arg .given) refl in
+    let y : at sums i ≡ taps-to (a .coefficients .now) (a .samples .now) i 11 =
+    rw (s .loop .inv .0) (at-tabulate (λ k. taps-to (a .coefficients .now) (a .samples .now) k 11) (pos 0) 40 i (omega arith))
+    in
+    let e : v ≡ g i = rw (got w16 (c .rounded .ok) (c .rounded .ensures), got w32 (f .shift .ok) (f .shift .ensures), x, y) in (
+      s .loop .inv .0,
+      omega arith,
+      length-set (s .loop .residual) i v ∙ s .loop .inv .2,
+      filled-more g (pos 0) i (s .loop .residual) v (omega arith) e (s .loop .inv .3),
+    )
+
+returns : tie.Need-returns Inv-loop μ-loop
+unfolding Residu
+returns c =
+    let s = c .before in
+    let a = s .before .before .args in
+    let e : s .loop .i ≡ 40 = omega arith in
+    filled-all (residual-at (a .coefficients .now) (a .samples .now)) (pos 0) 40 (s .loop .residual) (s .loop .inv .2) (rw e at (s .loop .inv .3))
+
+pub filtered-spec : {M : Type 1} → statement M
+filtered-spec =
+    tie.close
+    (tie.spec
+    Inv-loop
+    μ-loop
+    tap-sums-requires
+    loop-holds
+    mul-shift
+    array-copy-out-shift
+    shift-requires
+    rounded-requires
+    mul-residual
+    array-set-from-residual
+    add-i
+    loop-less
+    loop-again
+    returns)

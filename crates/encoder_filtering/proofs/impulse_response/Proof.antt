@@ -1,0 +1,52 @@
+use Rattle.encoder_filtering.specs.Subframes.{impulse-response}
+use Rattle.encoder_filtering.specs.Filters.{Syn-filt}
+use borrow.Author.Needs.{needs}
+use Rattle.encoder_filtering.proofs.impulse_response.Statement.{statement}
+use Rattle.encoder_filtering.proofs.impulse_response.Tie as tie
+use Rattle.encoder_filtering.proofs.put_out.Reads as put-out-reads
+
+slice-aggregate-none : tie.Need-slice-aggregate-none
+slice-aggregate-none c = search needs
+
+extended-requires : tie.Need-extended-requires
+extended-requires c κs = search needs
+
+slice-aggregate-input : tie.Need-slice-aggregate-input
+slice-aggregate-input c = search needs
+
+synthesis-requires : tie.Need-synthesis-requires
+synthesis-requires c κs = search needs
+
+put-out-requires : tie.Need-put-out-requires
+put-out-requires c κs = search needs
+
+slice-aggregate-unweighted-words : tie.Need-slice-aggregate-unweighted-words
+slice-aggregate-unweighted-words c = search needs
+
+synthesis-requires-2 : tie.Need-synthesis-requires-2
+synthesis-requires-2 c κs = search needs
+
+put-out-requires-2 : tie.Need-put-out-requires-2
+put-out-requires-2 c κs = search needs
+
+returns : tie.Need-returns
+unfolding impulse-response Syn-filt
+returns c =
+    let y = c .before .before in
+    let u = y .before .before in
+    let z = u .before .before in
+    rw (c .put-out2 .ensures, y .synthesis2 .ensures, u .put-out .ensures, z .synthesis .ensures, z .before .before .extended .ensures)
+
+pub impulse-response-spec : {M : Type 1} → statement M
+impulse-response-spec =
+    tie.close
+    (tie.spec
+    slice-aggregate-none
+    extended-requires
+    slice-aggregate-input
+    synthesis-requires
+    put-out-requires
+    slice-aggregate-unweighted-words
+    synthesis-requires-2
+    put-out-requires-2
+    returns)

@@ -1,0 +1,32 @@
+use Rattle.encoder_filtering.specs.Subframes.{target-of}
+use Rattle.encoder_filtering.specs.Filters.{Syn-filt}
+use borrow.Author.Needs.{needs}
+use Rattle.encoder_filtering.proofs.target_of.Statement.{statement}
+use Rattle.encoder_filtering.proofs.target_of.Tie as tie
+use Rattle.encoder_filtering.proofs.put_out.Reads as put-out-reads
+
+filtered-requires : tie.Need-filtered-requires
+filtered-requires c κs = search needs
+
+slice-aggregate-weighted-words : tie.Need-slice-aggregate-weighted-words
+slice-aggregate-weighted-words c = search needs
+
+synthesis-requires : tie.Need-synthesis-requires
+synthesis-requires c κs = search needs
+
+put-out-requires : tie.Need-put-out-requires
+put-out-requires c κs = search needs
+
+returns : tie.Need-returns
+unfolding target-of Syn-filt
+returns c = rw (c .put-out .ensures, c .before .before .synthesis .ensures, c .before .before .before .before .filtered .ensures)
+
+pub target-of-spec : {M : Type 1} → statement M
+target-of-spec =
+    tie.close
+    (tie.spec
+    filtered-requires
+    slice-aggregate-weighted-words
+    synthesis-requires
+    put-out-requires
+    returns)
