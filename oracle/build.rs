@@ -70,6 +70,8 @@ const REPLACED: &[(&str, &str, &str, usize)] = &[
     ("codebook/search.rs", "fn product(", "pub fn product(", 1),
     ("codebook/search.rs", "fn rounded(", "pub fn rounded(", 1),
     ("codebook/search.rs", "fn scaled(", "pub fn scaled(", 1),
+    ("encoder_filtering.rs", "const GAMMA_ONE_Q15:", "pub const GAMMA_ONE_Q15:", 1),
+    ("encoder_filtering.rs", "const GAMMA_TWO_Q15:", "pub const GAMMA_TWO_Q15:", 1),
     ("energy.rs", "fn doubled_product(", "pub fn doubled_product(", 1),
     ("energy.rs", "fn multiply_q15(", "pub fn multiply_q15(", 1),
     ("energy.rs", "fn normalization(", "pub fn normalization(", 1),
@@ -114,6 +116,7 @@ const REPLACED: &[(&str, &str, &str, usize)] = &[
     ("postfilter.rs", "fn multiply(", "pub fn multiply(", 1),
     ("postfilter.rs", "fn product(", "pub fn product(", 1),
     ("postfilter.rs", "fn rounded(", "pub fn rounded(", 1),
+    ("postfilter.rs", "pub(super) fn weight(", "pub fn weight(", 1),
     ("spectral.rs", "fn multiply_q15(", "pub fn multiply_q15(", 1),
     ("synthesis.rs", "fn saturated(", "pub fn saturated(", 1),
 ];

@@ -1,4 +1,4 @@
-//! The selection feed whose records the stages with a state are called with too.
+//! The selection feed whose records the stages are called with too.
 
 use std::{env, fs, io, path::PathBuf};
 

@@ -7,7 +7,7 @@ use crate::{
     project::{self, LengthAnswer, leaf_dot40, leaf_energy40},
     published,
     speech::Speech,
-    subframes::check_lengths,
+    subframes::{check_lengths, length_answer},
     words::{ENDS, HISTORY, SUBFRAME, Words, impulse_response, mixed},
 };
 
@@ -25,10 +25,13 @@ pub fn functions() -> [Function; 4] {
             "pitch/search.rs target sum" => published::dot40(&x.0, &y.0),
         }),
         function!("convolve", convolve_inputs(), |(input, impulse)| convolved(input, impulse), {
-            "pitch/search.rs" => (ACCEPTED, convolve(&input.0, &impulse.0)),
+            "pitch/search.rs" => (LengthAnswer::ACCEPTED, convolve(&input.0, &impulse.0)),
         }),
         function!("convolve", wrong_lengths(), |lengths| refused(lengths), {
-            "rule of 01 for the lengths" => (refusal(lengths), true),
+            "rule of 01 for the lengths" => (
+                length_answer(check_lengths(lengths, [SUBFRAME; 3])),
+                true,
+            ),
         }),
     ]
 }
@@ -75,11 +78,6 @@ fn speech_pair(random: &mut Random) -> (Subframe, Subframe) {
     )
 }
 
-const ACCEPTED: LengthAnswer = LengthAnswer {
-    number: 0,
-    magnitude: 0,
-};
-
 fn convolved(input: Subframe, impulse: Subframe) -> (LengthAnswer, [i16; SUBFRAME]) {
     let mut output = [0; SUBFRAME];
     let answer = project::convolve(&input.0, &impulse.0, &mut output);
@@ -114,14 +112,4 @@ fn refused([input, impulse, output]: [usize; 3]) -> (LengthAnswer, bool) {
         &mut words[BESIDE..BESIDE + output],
     );
     (answer, words == before)
-}
-
-fn refusal(lengths: [usize; 3]) -> LengthAnswer {
-    match check_lengths(lengths, [SUBFRAME; 3]) {
-        Ok(()) => ACCEPTED,
-        Err(refusal) => LengthAnswer {
-            number: refusal.number,
-            magnitude: refusal.detail,
-        },
-    }
 }

@@ -2,7 +2,8 @@
 //!
 //! Every input is compared where a function has at most 2^32 of them; of the others the
 //! combinations of the ends of the argument types and a fixed pseudo-random sample. The search and
-//! the detector have a state, so they are compared in chains of calls.
+//! the detector have a state, so they are compared in chains of calls. Where a comparison is made of
+//! words that were drawn, the cases that it must meet are counted.
 
 mod calls;
 mod cases;
@@ -10,7 +11,9 @@ mod chains;
 mod compare;
 mod counts;
 mod feed;
+mod filtering;
 mod inputs;
+mod lent;
 mod lists;
 mod open_loop;
 mod operators;
@@ -68,6 +71,7 @@ fn compare_functions(names: &[&str]) -> Result<ExitCode, String> {
     functions.extend(reader::functions());
     functions.extend(search::functions());
     functions.extend(open_loop::functions());
+    functions.extend(filtering::functions());
     for name in names {
         if !functions.iter().any(|function| function.name == *name) {
             let mut known: Vec<_> = functions.iter().map(|function| function.name).collect();
@@ -99,9 +103,10 @@ fn compare_functions(names: &[&str]) -> Result<ExitCode, String> {
 /// Writes each replay program's sample to the program's folder below this one.
 fn record_samples(folder: &str) -> Result<ExitCode, String> {
     type Write = fn(&Path) -> io::Result<usize>;
-    let samples: [(&str, Write); 2] = [
+    let samples: [(&str, Write); 3] = [
         ("replay", record::write),
         ("replay_open_loop", open_loop::record::write),
+        ("replay_filtering", filtering::record::write),
     ];
     for (program, write) in samples {
         let folder = Path::new(folder).join(program);

@@ -10,6 +10,7 @@ use crate::{
     compare::{Function, Line, in_threads},
     counts::Cases,
     feed,
+    lent::Lent,
     project::{self, OpenLoopAnswer},
     subframes::Refusal,
     words::shortened,
@@ -150,45 +151,6 @@ fn answer(answer: Result<u16, Refusal>) -> OpenLoopAnswer {
             magnitude: refusal.detail,
             lag: 0,
         },
-    }
-}
-
-/// A list with words beside it that a call must leave alone.
-struct Lent(Vec<i16>);
-
-impl Lent {
-    const BESIDE: usize = 50;
-
-    fn new(words: &[i16]) -> Self {
-        let beside = [0x5a5a; Self::BESIDE];
-        Self([&beside, words, &beside].concat())
-    }
-
-    fn words(&mut self) -> &mut [i16] {
-        let end = self.0.len() - Self::BESIDE;
-        &mut self.0[Self::BESIDE..end]
-    }
-
-    /// The first word that is not the expected one, here and as expected.
-    fn difference(&self, expected: &[i16]) -> Option<[Word; 2]> {
-        let expected = Self::new(expected).0;
-        let place = (0..expected.len()).find(|&place| self.0[place] != expected[place])?;
-        Some([&self.0, &expected].map(|words| Word {
-            place: place as isize - Self::BESIDE as isize,
-            word: words[place],
-        }))
-    }
-}
-
-/// A word of a list; one beside it has a place below 0 or from its length up.
-struct Word {
-    place: isize,
-    word: i16,
-}
-
-impl fmt::Debug for Word {
-    fn fmt(&self, f: &mut fmt::Formatter<'_>) -> fmt::Result {
-        write!(f, "{} at {}", self.word, self.place)
     }
 }
 

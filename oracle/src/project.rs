@@ -90,6 +90,13 @@ pub struct LengthAnswer {
     pub magnitude: u64,
 }
 
+impl LengthAnswer {
+    pub const ACCEPTED: Self = Self {
+        number: 0,
+        magnitude: 0,
+    };
+}
+
 /// The number of the refusal, 0 where accepted, with the wrong length; and the lag, 0 where refused.
 #[repr(C)]
 #[derive(Debug, Clone, Copy, PartialEq, Eq)]
@@ -169,6 +176,34 @@ unsafe extern "C" {
         history: *mut i16,
         history_length: usize,
     ) -> OpenLoopAnswer;
+    fn mr74_residual(
+        coefficients_q12: *const i16,
+        coefficients_length: usize,
+        samples: *const i16,
+        samples_length: usize,
+        residual_q0: *mut i16,
+        residual_length: usize,
+    ) -> LengthAnswer;
+    fn mr74_prepare(
+        speech_q0: *const i16,
+        speech_length: usize,
+        coefficients_q12: *const i16,
+        coefficients_length: usize,
+        quantized_q12: *const i16,
+        quantized_length: usize,
+        error_history_q0: *const i16,
+        error_history_length: usize,
+        weighting_history_q0: *const i16,
+        weighting_history_length: usize,
+        residual_q0: *mut i16,
+        residual_length: usize,
+        impulse_q12: *mut i16,
+        impulse_length: usize,
+        target_q0: *mut i16,
+        target_length: usize,
+        error_q0: *mut i16,
+        error_length: usize,
+    ) -> LengthAnswer;
 }
 
 pub fn convolve(input: &[i16], impulse_q12: &[i16], output: &mut [i16]) -> LengthAnswer {
@@ -219,6 +254,60 @@ pub fn open_loop(samples: &[i16], history: &mut [i16]) -> OpenLoopAnswer {
             samples.len(),
             history.as_mut_ptr(),
             history.len(),
+        )
+    }
+}
+
+pub fn residual(
+    coefficients_q12: &[i16],
+    samples: &[i16],
+    residual_q0: &mut [i16],
+) -> LengthAnswer {
+    // SAFETY: each pointer is that of a list with the length beside it, borrowed for the call.
+    unsafe {
+        mr74_residual(
+            coefficients_q12.as_ptr(),
+            coefficients_q12.len(),
+            samples.as_ptr(),
+            samples.len(),
+            residual_q0.as_mut_ptr(),
+            residual_q0.len(),
+        )
+    }
+}
+
+/// Reads the speech, the coefficients, the quantized ones, the error history and the weighting
+/// history, and writes the residual, the impulse response, the target and the error.
+pub fn prepare(read: [&[i16]; 5], written: [&mut [i16]; 4]) -> LengthAnswer {
+    let [
+        speech,
+        coefficients,
+        quantized,
+        error_history,
+        weighting_history,
+    ] = read;
+    let [residual, impulse, target, error] = written;
+    // SAFETY: each pointer is that of a list with the length beside it, borrowed for the call.
+    unsafe {
+        mr74_prepare(
+            speech.as_ptr(),
+            speech.len(),
+            coefficients.as_ptr(),
+            coefficients.len(),
+            quantized.as_ptr(),
+            quantized.len(),
+            error_history.as_ptr(),
+            error_history.len(),
+            weighting_history.as_ptr(),
+            weighting_history.len(),
+            residual.as_mut_ptr(),
+            residual.len(),
+            impulse.as_mut_ptr(),
+            impulse.len(),
+            target.as_mut_ptr(),
+            target.len(),
+            error.as_mut_ptr(),
+            error.len(),
         )
     }
 }

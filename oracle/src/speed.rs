@@ -2,6 +2,7 @@
 
 use crate::{
     codec::mr74::{
+        encoder_filtering::PreparedSubframe,
         energy::inverse_sqrt,
         gain::quantization,
         logarithm,
@@ -11,6 +12,7 @@ use crate::{
             search::{OpenLoopLag, Search, SearchedPitch},
         },
     },
+    filtering::{self, loud_call, speech_call},
     inputs::{Argument, Random},
     open_loop::{HALF_FRAME, HISTORY},
     project::*,
@@ -74,6 +76,7 @@ pub fn report() {
         report_lists(kind, loud);
     }
     report_pushes();
+    report_filtering();
 }
 
 fn report_operators() {
@@ -294,4 +297,49 @@ fn published_push(push: &Push) -> (OpenLoopLag, Detector) {
     let mut detector = push.before.clone();
     let lag = detector.push(&push.samples);
     (lag, detector)
+}
+
+/// A call of `residual` or of `prepare`, for both sides.
+type Filtering = filtering::Call;
+
+fn report_filtering() {
+    type Draw = fn(&mut Random) -> Filtering;
+    let kinds: [(&str, Draw); 2] = [
+        ("speech, stable filter", speech_call),
+        ("full-scale words, unstable filter", loud_call),
+    ];
+    for (kind, draw) in kinds {
+        let random = &mut Random::at(0);
+        let calls: Vec<_> = (0..LISTS).map(|_| draw(random)).collect();
+        let calls: Vec<_> = calls.iter().collect();
+        let name = format!("residual ({kind})");
+        measure(&name, &calls, library_residual, published_residual);
+        let name = format!("prepare ({kind})");
+        measure(&name, &calls, library_prepare, published_prepare);
+    }
+}
+
+#[inline(never)]
+fn library_residual(call: &Filtering) -> (LengthAnswer, [i16; SUBFRAME]) {
+    let mut output = [0; SUBFRAME];
+    let answer = residual(&call.coefficients, &call.speech, &mut output);
+    (answer, output)
+}
+
+#[inline(never)]
+fn published_residual(call: &Filtering) -> [i16; SUBFRAME] {
+    call.residual()
+}
+
+#[inline(never)]
+fn library_prepare(call: &Filtering) -> (LengthAnswer, [[i16; SUBFRAME]; 4]) {
+    let mut outputs = [[0; SUBFRAME]; 4];
+    let written = outputs.each_mut().map(|output| output.as_mut_slice());
+    let answer = prepare(call.lists(), written);
+    (answer, outputs)
+}
+
+#[inline(never)]
+fn published_prepare(call: &Filtering) -> PreparedSubframe {
+    call.prepare()
 }

@@ -6,7 +6,7 @@ use crate::{
         DeltaIndexError, PitchLag,
         search::{OpenLoopLag, Search, SearchError, Subframe},
     },
-    project::{PitchAnswer, PitchState},
+    project::{LengthAnswer, PitchAnswer, PitchState},
 };
 
 /// What is turned down, by its number in 01 and its detail.
@@ -51,6 +51,17 @@ pub fn check_lengths<const N: usize>(
             number: 1,
             detail: length as u64,
         }),
+    }
+}
+
+/// The answer of a function that refuses nothing but lengths.
+pub fn length_answer(checked: Result<(), Refusal>) -> LengthAnswer {
+    match checked {
+        Ok(()) => LengthAnswer::ACCEPTED,
+        Err(refusal) => LengthAnswer {
+            number: refusal.number,
+            magnitude: refusal.detail,
+        },
     }
 }
 

@@ -1,0 +1,77 @@
+//! Calls of `residual` and of `prepare`: the lists of one call, and those of a feed.
+
+use super::{COEFFICIENTS, INPUT, ORDER};
+use crate::{
+    codec::mr74::encoder_filtering::{PreparedSubframe, prepare, residual},
+    feed::{self, Record},
+    words::SUBFRAME,
+};
+
+/// The lists of a call of `prepare`. A call of `residual` takes the coefficients and the speech.
+#[derive(Clone, PartialEq, Eq)]
+pub struct Call {
+    pub speech: [i16; INPUT],
+    pub coefficients: [i16; COEFFICIENTS],
+    pub quantized: [i16; COEFFICIENTS],
+    /// The ten words before those that are filtered, the oldest first.
+    pub error_history: [i16; ORDER],
+    pub weighting_history: [i16; ORDER],
+}
+
+impl Call {
+    /// The lists in the order of `prepare`.
+    pub fn lists(&self) -> [&[i16]; 5] {
+        [
+            &self.speech,
+            &self.coefficients,
+            &self.quantized,
+            &self.error_history,
+            &self.weighting_history,
+        ]
+    }
+
+    pub fn residual(&self) -> [i16; SUBFRAME] {
+        residual(&self.coefficients, &self.speech)
+    }
+
+    pub fn prepare(&self) -> PreparedSubframe {
+        prepare(
+            &self.speech,
+            &self.coefficients,
+            &self.quantized,
+            &self.error_history,
+            &self.weighting_history,
+        )
+    }
+}
+
+/// The ten words before a list, and the list.
+pub fn joined(before: &[i16; ORDER], words: &[i16; SUBFRAME]) -> [i16; INPUT] {
+    let mut joined = [0; INPUT];
+    joined[..ORDER].copy_from_slice(before);
+    joined[ORDER..].copy_from_slice(words);
+    joined
+}
+
+/// The call of a feed's filtering record, of no other.
+pub fn call(record: &Record) -> Option<Call> {
+    if record.kind != 5 {
+        return None;
+    }
+    let words = feed::words(&record.body);
+    let mut rest = words.as_slice();
+    Some(Call {
+        speech: taken(&mut rest),
+        coefficients: taken(&mut rest),
+        quantized: taken(&mut rest),
+        error_history: taken(&mut rest),
+        weighting_history: taken(&mut rest),
+    })
+}
+
+/// Takes the first words away.
+fn taken<const N: usize>(words: &mut &[i16]) -> [i16; N] {
+    let (first, rest) = words.split_first_chunk().expect("a record's words");
+    *words = rest;
+    *first
+}

@@ -1,0 +1,176 @@
+//! The recorded sample of target filtering: calls with the answers of the published Rust, for the
+//! third replay program. The library's answers are not asked for.
+//!
+//! A record of `stdin` has 184 bytes: the words of a call in the order of `prepare`, in two bytes
+//! each, high byte first. `stdout` has a title and two lines for each record: `residual` with the
+//! words that `residual` answers of the coefficients and the speech, and `filter` with those that
+//! `prepare` answers, residual, impulse response, target and error.
+
+use super::{
+    Call,
+    cases::{CHANGES, Case, FACTORS, PARTS, Prepared},
+    filters, residual,
+    sources::{self, Drawn},
+};
+use crate::{
+    codec::mr74::encoder_filtering::PreparedSubframe,
+    counts::{Counted, Found},
+    feed::bytes,
+    record::write_files,
+};
+use std::{io, path::Path};
+
+const TITLE: &str = "mr74 replay filtering\n";
+
+/// The records, and the calls that are looked at for those which meet a case.
+const RECORDS: usize = 60;
+const CALLS: u64 = 30_000;
+
+/// Writes the sample and gives its number of records.
+pub fn write(folder: &Path) -> io::Result<usize> {
+    let sample = sample();
+    write_files(folder, &sample.stdin, &sample.stdout)?;
+    Ok(sample.records)
+}
+
+/// The cases that some calls met.
+struct Met {
+    sources: Found<sources::Case>,
+    residual: Found<filters::Case>,
+    prepare: Found<Case>,
+    filters: [Found<filters::Case>; PARTS.len()],
+    factors: [bool; FACTORS],
+}
+
+impl Met {
+    fn new() -> Self {
+        Self {
+            sources: Found::new(),
+            residual: Found::new(),
+            prepare: Found::new(),
+            filters: PARTS.map(|_| Found::new()),
+            factors: [false; FACTORS],
+        }
+    }
+
+    fn by(drawn: &Drawn) -> Self {
+        let call = &drawn.call;
+        let prepared = Prepared {
+            call,
+            answer: &call.prepare(),
+        };
+        let mut cases = prepared.cases();
+        for number in 0..CHANGES.len() {
+            prepared.find_change(&mut cases.found, number);
+        }
+        Self {
+            sources: drawn.cases(),
+            residual: residual::cases(call, &call.residual()),
+            prepare: cases.found,
+            filters: cases.filters,
+            factors: cases.factors,
+        }
+    }
+
+    fn add(&mut self, other: &Self) {
+        self.sources.add(&other.sources);
+        self.residual.add(&other.residual);
+        self.prepare.add(&other.prepare);
+        for (filter, other) in self.filters.iter_mut().zip(&other.filters) {
+            filter.add(other);
+        }
+        for (factor, other) in self.factors.iter_mut().zip(other.factors) {
+            *factor |= other;
+        }
+    }
+
+    /// Whether the other has all of these.
+    fn is_within(&self, other: &Self) -> bool {
+        let mut filters = self.filters.iter().zip(&other.filters);
+        let mut factors = self.factors.iter().zip(other.factors);
+        self.sources.is_within(&other.sources)
+            && self.residual.is_within(&other.residual)
+            && self.prepare.is_within(&other.prepare)
+            && filters.all(|(filter, other)| filter.is_within(other))
+            && factors.all(|(&factor, other)| !factor || other)
+    }
+
+    /// Asserts that no case is missing that a call without a feed can meet.
+    fn assert_all(&self) {
+        assert_met(&self.sources, |case| !case.needs_feed());
+        assert_met(&self.residual, |_| true);
+        assert_met(&self.prepare, |_| true);
+        for ((part, _), filter) in PARTS.iter().zip(&self.filters) {
+            assert_met(filter, |case| part.reaches(case));
+        }
+        assert_eq!(self.factors, [true; FACTORS], "a factor without a call");
+    }
+}
+
+fn assert_met<C: Counted>(met: &Found<C>, asked: impl Fn(C) -> bool) {
+    for &(case, text) in C::TEXTS {
+        assert!(
+            !asked(case) || met.has(case),
+            "no call for the sample: {text}"
+        );
+    }
+}
+
+/// Some records and the cases that they met.
+struct Sample {
+    stdin: Vec<u8>,
+    stdout: String,
+    records: usize,
+    met: Met,
+}
+
+/// The calls that meet a case which none before them met, then further ones of all sources. No feed
+/// is among them, so that the sample is the same without one.
+fn sample() -> Sample {
+    let mut sample = Sample {
+        stdin: Vec::new(),
+        stdout: TITLE.to_string(),
+        records: 0,
+        met: Met::new(),
+    };
+    for index in 0..CALLS {
+        let drawn = Drawn::at(index, &[]);
+        let met = Met::by(&drawn);
+        if !met.is_within(&sample.met) {
+            sample.met.add(&met);
+            sample.record(&drawn.call);
+        }
+    }
+    sample.met.assert_all();
+    for index in CALLS.. {
+        if sample.records >= RECORDS {
+            break;
+        }
+        sample.record(&Drawn::at(index, &[]).call);
+    }
+    sample
+}
+
+impl Sample {
+    fn record(&mut self, call: &Call) {
+        self.records += 1;
+        self.stdin.extend(bytes(&call.lists().concat()));
+        self.line("residual", &call.residual());
+        let PreparedSubframe {
+            residual_q0,
+            impulse_q12,
+            target_q0,
+            error_q0,
+        } = call.prepare();
+        let words = [residual_q0, impulse_q12, target_q0, error_q0].concat();
+        self.line("filter", &words);
+    }
+
+    fn line(&mut self, name: &str, words: &[i16]) {
+        self.stdout.push_str(name);
+        for word in words {
+            self.stdout.push_str(&format!(" {word}"));
+        }
+        self.stdout.push('\n');
+    }
+}
