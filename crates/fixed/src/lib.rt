@@ -1,7 +1,7 @@
 // Words (i16) and longs (i32) in fixed point: TS 26.073's basic operators as small functions that take every value.
 // The Rust repeats them in every file; here they have one home. Each is equated with a number of the integers (specs/Operators.antt).
 ghost use mathlib.Core.Path.{_≡_};
-ghost use Prim.Native.Nat.{_<_, _≤_, _*_, _^_, min};
+ghost use Prim.Native.Nat.{_+_, _<_, _≤_, _*_, _^_, min};
 ghost use lib.IntN.{pos, natAbs, _*ℤ_};
 ghost use lib.Signed.{mag, shrZ};
 ghost use Rattle.fixed.specs.Clip.{clip};
@@ -152,6 +152,14 @@ pub fn low_word(v: i32) -> i16
 {
     let s = v as i64 + 32768;
     (s - (s >> 16) * 65536 - 32768) as i16
+}
+
+// The word of two bytes.
+pub fn word(high: u8, low: u8) -> i16
+    ensures { λ r. ⌜ r ≡ extract-l (pos (high * 256 + low)) ⌝ }
+{
+    let bits = high as u16 * 256 + low as u16;
+    low_word(bits as i32)
 }
 
 pub fn deposit_high(v: i16) -> i32

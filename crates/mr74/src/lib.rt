@@ -14,7 +14,6 @@ use pitch_search::Found;
 use pitch_search::Search;
 use refusal::Refusal;
 ghost use mathlib.Core.Path.{_≡_};
-ghost use lib.IntN.{pos};
 ghost use lib.ListN.{length};
 ghost use Rattle.logarithm.specs.Logarithms.{Log2};
 ghost use Rattle.logarithm.specs.Powers.{Pow2};
@@ -253,10 +252,10 @@ pub extern "C" fn mr74_open_loop(samples_q0: &[i16], history_q0: &mut [i16]) -> 
         × (now («history_q0» .exit) ≡ open-loop (now («samples_q0» .entry)) (now («history_q0» .entry)) .after) ⌝ }
 {
     if samples_q0.len() != 80 {
-        return refused_length(samples_q0.len());
+        return lag_answer(OpenLoop::Refused(Refusal::Length(samples_q0.len())));
     }
     if history_q0.len() != 143 {
-        return refused_length(history_q0.len());
+        return lag_answer(OpenLoop::Refused(Refusal::Length(history_q0.len())));
     }
     let old = history(history_q0);
     let detector = Detector { history_q0: old };
@@ -267,16 +266,6 @@ pub extern "C" fn mr74_open_loop(samples_q0: &[i16], history_q0: &mut [i16]) -> 
     let kept: &[i16] = &words;
     fixed::copy(kept, history_q0);
     lag_answer(lag)
-}
-
-fn refused_length(length: usize) -> OpenLoopAnswer
-    ensures { λ r. ⌜ r ≡ lag-answer (refused 1 (pos length)) ⌝ }
-{
-    OpenLoopAnswer {
-        number: 1,
-        magnitude: length as u64,
-        lag: 0,
-    }
 }
 
 fn lag_answer(lag: OpenLoop) -> OpenLoopAnswer

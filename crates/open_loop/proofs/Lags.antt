@@ -11,13 +11,13 @@ use lib.ListN.{length, set, length-set}
 use lib.Signed.{ltZ}
 use borrow.Author.Tests.{le-leb, lt-ltb}
 use Rattle.fixed.specs.Operators.{L-mac, mult}
-use Rattle.fixed.specs.Lists.{at, tabulate, part, between, L-sum, best}
+use Rattle.fixed.specs.Lists.{at, part, between, L-sum, best}
 use Rattle.fixed.proofs.Bounds.{either}
 use Rattle.fixed.proofs.Lists.{length-tabulate, at-tabulate, Filled, placed-more}
 use Rattle.fixed.proofs.Choices.{best-in, best-same}
 use Rattle.open_loop.specs.declared.Detector.{Detector}
 use Rattle.open_loop.specs.Detectors.{joined, Pitch-ol}
-use Rattle.open_loop.specs.Sections.{products, correlation, value-at, held-at, Lag-max, favoured, of-sections, lag-of, scaled-all}
+use Rattle.open_loop.specs.Sections.{products, correlation, by-lag, value-at, held-at, Lag-max, favoured, of-sections, lag-of, scaled-all}
 
 -- one product more
 pub products-more : (xs : List ℤ) (a b i : ℕ) → L-mac (products xs a b i) (at xs (a + i)) (at xs (b + i)) ≡ products xs a b (i + 1)
@@ -25,11 +25,7 @@ unfolding products L-sum L-mac
 products-more xs a b i = rw (add-one i)
 
 module _ (xs : List ℤ) where
-  -- the correlations by the lag
-  abbrev pub by-lag : List ℤ
-  by-lag = tabulate (between (correlation xs) (λ k. pos 0) 20 144) 144
-
-  -- its places filled from 20 up to, and without, m
+  -- the places of the correlations by the lag, filled from 20 up to, and without, m
   abbrev pub Placed : ℕ → List ℤ → Type 0
   Placed m ts = (length ts ≡ 144) × Filled (between (correlation xs) (λ k. pos 0) 20 m) (pos 0) 144 ts
 
@@ -37,13 +33,13 @@ module _ (xs : List ℤ) where
   placed-next m n ts v q h l e p =
       rw q (length-set ts m v ∙ p .0, placed-more (correlation xs) (λ k. pos 0) 20 m 144 ts v h (omega (arith, p .0)) e (p .1))
 
-  pub at-lag : (lag : ℕ) → 20 ≤ lag → lag ≤ 143 → at by-lag lag ≡ correlation xs lag
+  pub at-lag : (lag : ℕ) → 20 ≤ lag → lag ≤ 143 → at (by-lag xs) lag ≡ correlation xs lag
   at-lag lag h l =
       rw (at-tabulate (between (correlation xs) (λ k. pos 0) 20 144) (pos 0) 144 lag (omega arith), le-leb 20 lag h, lt-ltb lag 144 (omega arith))
 
-  pub lag-max-table : (low span : ℕ) → 20 ≤ low → low + span ≤ 143 → best ltZ (at by-lag) low span ≡ Lag-max xs low span
+  pub lag-max-table : (low span : ℕ) → 20 ≤ low → low + span ≤ 143 → best ltZ (at (by-lag xs)) low span ≡ Lag-max xs low span
   unfolding Lag-max
-  lag-max-table low span h l = best-same ltZ (at by-lag) (correlation xs) low span (λ k g f. at-lag k (omega arith) (omega arith))
+  lag-max-table low span h l = best-same ltZ (at (by-lag xs)) (correlation xs) low span (λ k g f. at-lag k (omega arith) (omega arith))
 
   -- the lag that is kept, with its value
   pub favoured-held : (h l : ℕ) → cond (ltZ (mult (value-at xs h) (pos 27853)) (value-at xs l)) (held-at xs l) (held-at xs h) ≡ held-at xs (favoured xs h l)

@@ -5,7 +5,7 @@ use Prim.Native.Nat.{ℕ, _+_, _-_}
 use lib.IntN.{ℤ, pos, negsuc}
 use lib.Signed.{ltZ, leZ}
 use Rattle.fixed.specs.Operators.{L-mult, shl, mult, extract-l, Mpy-32}
-use Rattle.fixed.specs.Lists.{at, tabulate, L-sum, best}
+use Rattle.fixed.specs.Lists.{at, tabulate, between, L-sum, best}
 use Rattle.energy.specs.Root.{Inv-sqrt}
 use Rattle.open_loop.specs.declared.Held.{Held}
 
@@ -24,6 +24,10 @@ scaled-all xs = tabulate (λ k. scaled (products xs 0 0 223) (at xs k)) 223
 -- comp_corr: the new words against those `lag` places before them
 unfoldable pub correlation : List ℤ → ℕ → ℤ
 correlation xs lag = products xs 143 (143 - lag) 80
+
+-- comp_corr, corr[-lag]: by the lag, places 20 to 143 of a list of 144
+abbrev pub by-lag : List ℤ → List ℤ
+by-lag xs = tabulate (between (correlation xs) (λ k. pos 0) 20 144) 144
 
 -- Lag_max, 'compute energy': of the words `lag` places before the new ones
 unfoldable pub delayed-energy : List ℤ → ℕ → ℤ

@@ -9,9 +9,9 @@ ghost use lib.IntN.{pos};
 ghost use lib.ListN.{length};
 ghost use lib.Signed.{ltZ};
 ghost use Rattle.fixed.specs.Operators.{mult};
-ghost use Rattle.fixed.specs.Lists.{at, tabulate, part, between, best};
+ghost use Rattle.fixed.specs.Lists.{at, part, best};
 ghost use Rattle.pitch.specs.Kinds.{told-lag};
-ghost use Rattle.open_loop.specs.Sections.{products, scaled, scaled-all, correlation, held-at, Lag-max, of-sections, lag-of};
+ghost use Rattle.open_loop.specs.Sections.{products, scaled, scaled-all, correlation, by-lag, held-at, Lag-max, of-sections, lag-of};
 ghost use Rattle.open_loop.specs.Detectors.{fresh-detector, joined, Pitch-ol};
 
 const HALF_FRAME_SAMPLES: usize = 80;
@@ -143,7 +143,7 @@ fn energy(words: &[i16; 223], from: usize, count: usize) -> i32
 
 // By the lag: places 20 to 143, four at a time.
 fn correlations(words: &[i16; 223]) -> [i32; 144]
-    ensures { λ r. ⌜ r ≡ tabulate (between (correlation (now (words .entry))) (λ k. pos 0) 20 144) 144 ⌝ }
+    ensures { λ r. ⌜ r ≡ by-lag (now (words .entry)) ⌝ }
 {
     let mut table = [0i32; LAGS];
     let mut lag = MINIMUM_LAG;
@@ -191,7 +191,7 @@ fn four_at(words: &[i16; 223], lag: usize) -> Four
 }
 
 fn of_sections(words: &[i16; 223], table: &[i32; 144]) -> usize
-    requires { ⌜ now table ≡ tabulate (between (correlation (now words)) (λ k. pos 0) 20 144) 144 ⌝ }
+    requires { ⌜ now table ≡ by-lag (now words) ⌝ }
     ensures { λ r. ⌜ r ≡ of-sections (now (words .entry)) ⌝ }
 {
     let long = section(words, table, 80, 63);
@@ -208,7 +208,7 @@ struct Held {
 
 // The best of a section's lags.
 fn section(words: &[i16; 223], table: &[i32; 144], low: usize, span: usize) -> Held
-    requires { ⌜ (now table ≡ tabulate (between (correlation (now words)) (λ k. pos 0) 20 144) 144) × (20 ≤ low) × (low + span ≤ 143) ⌝ }
+    requires { ⌜ (now table ≡ by-lag (now words)) × (20 ≤ low) × (low + span ≤ 143) ⌝ }
     ensures { λ r. ⌜ r ≡ held-at (now (words .entry)) (Lag-max (now (words .entry)) low span) ⌝ }
 {
     let lag = best_lag(table, low, span);

@@ -46,7 +46,7 @@ fn pair_of(high: u8, low: u8) -> u16 {
 }
 
 fn long_of(b3: u8, b2: u8, b1: u8, b0: u8) -> i32 {
-    let high = fixed::low_word(pair_of(b3, b2) as i32);
+    let high = fixed::word(b3, b2);
     fixed::add32(fixed::deposit_high(high), pair_of(b1, b0) as i32)
 }
 

@@ -27,7 +27,7 @@ fn step() -> bool {
     }
     let mut words = [0i16; WORDS];
     for i in 0..WORDS {
-        words[i] = word(bytes[2 * i], bytes[2 * i + 1]);
+        words[i] = fixed::word(bytes[2 * i], bytes[2 * i + 1]);
     }
     let all: &[i16] = &words;
     print_record(all);
@@ -46,11 +46,6 @@ fn print_record(words: &[i16]) {
         &words[72..82],
         &words[82..92],
     );
-}
-
-fn word(high: u8, low: u8) -> i16 {
-    let bits = high as u16 * 256 + low as u16;
-    fixed::low_word(bits as i32)
 }
 
 fn print_residual(speech: &[i16], coefficients: &[i16]) {

@@ -60,7 +60,7 @@ fn pushed(detector: Detector, count: u8) -> Replay {
     }
     let mut samples = [0i16; 255];
     for i in 0..words {
-        samples[i] = word(bytes[2 * i], bytes[2 * i + 1]);
+        samples[i] = fixed::word(bytes[2 * i], bytes[2 * i + 1]);
     }
     let step = detector.push(&samples[..words]);
     let lag = step.lag;
@@ -70,11 +70,6 @@ fn pushed(detector: Detector, count: u8) -> Replay {
         open: true,
         detector,
     }
-}
-
-fn word(high: u8, low: u8) -> i16 {
-    let bits = high as u16 * 256 + low as u16;
-    fixed::low_word(bits as i32)
 }
 
 fn print_lag(lag: OpenLoop) {

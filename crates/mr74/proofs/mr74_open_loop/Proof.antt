@@ -1,33 +1,32 @@
-use Rattle.open_loop.proofs.Lags.{kept-length}
-use Rattle.open_loop.specs.Detectors.{Pitch-ol}
-use Rattle.open_loop.specs.declared.Detector.{Detector}
-use Rattle.fixed.proofs.Lists.{copied-whole}
 use borrow.Author.Tests.{ne-eqb, eq-eqb}
+use Rattle.fixed.proofs.Lists.{copied-whole}
+use Rattle.open_loop.specs.declared.Detector.{Detector}
+use Rattle.open_loop.specs.Detectors.{Pitch-ol}
+use Rattle.open_loop.proofs.Lags.{kept-length}
 use Rattle.mr74.specs.OpenLoops.{open-loop}
 use borrow.Author.Needs.{needs}
 use Rattle.mr74.proofs.mr74_open_loop.Statement.{statement}
 use Rattle.mr74.proofs.mr74_open_loop.Tie as tie
 use Rattle.mr74.proofs.lag_answer.Reads as lag-answer-reads
-use Rattle.mr74.proofs.refused_length.Reads as refused-length-reads
 
-refused-length-requires : tie.Need-refused-length-requires
-refused-length-requires c κs = search needs
+lag-answer-requires : tie.Need-lag-answer-requires
+lag-answer-requires c κs = search needs
 
 returns : tie.Need-returns
 unfolding open-loop
 returns c =
     let n = ne-eqb _ _ (c .before .if1 .taken) in
-    (rw n (c .refused-length .ensures), rw n)
+    (rw n (c .lag-answer .ensures), rw n)
 
-refused-length-requires-2 : tie.Need-refused-length-requires-2
-refused-length-requires-2 c κs = search needs
+lag-answer-requires-2 : tie.Need-lag-answer-requires-2
+lag-answer-requires-2 c κs = search needs
 
 returns-2 : tie.Need-returns-2
 unfolding open-loop
 returns-2 c =
     let n = eq-eqb _ _ (c .before .before .if1 .left) in
     let m = ne-eqb _ _ (c .before .if2 .taken) in
-    (rw (n, m) (c .refused-length2 .ensures), rw (n, m))
+    (rw (n, m) (c .lag-answer2 .ensures), rw (n, m))
 
 history-requires : tie.Need-history-requires
 history-requires c κs = search needs
@@ -41,8 +40,8 @@ slice-aggregate-kept c = search needs
 copy-requires : tie.Need-copy-requires
 copy-requires c κs = search needs
 
-lag-answer-requires : tie.Need-lag-answer-requires
-lag-answer-requires c κs = search needs
+lag-answer-requires-3 : tie.Need-lag-answer-requires-3
+lag-answer-requires-3 c κs = search needs
 
 same-length : tie.Need-same-length
 same-length c = search needs
@@ -58,7 +57,7 @@ returns-3 c =
     let d : Detector = record { «history_q0» = a .history-q0 .now } in
     let n = eq-eqb _ _ (e .before .if1 .left) in
     let m = eq-eqb _ _ (e .if2 .left) in (
-      rw (n, m, c .lag-answer .ensures, p .push .ensures .0, h .history .ensures),
+      rw (n, m, c .lag-answer3 .ensures, p .push .ensures .0, h .history .ensures),
       rw (n, m, k .copy .ensures, p .push .ensures .1, h .history .ensures)
           (copied-whole 143 (Pitch-ol d (a .samples-q0 .now) .after .«history_q0») (a .history-q0 .now) (kept-length d (a .samples-q0 .now) (e .if2 .left)) (e .if2 .left)),
     )
@@ -67,14 +66,14 @@ pub mr74-open-loop-spec : {M : Type 1} → statement M
 mr74-open-loop-spec =
     tie.close
     (tie.spec
-    refused-length-requires
+    lag-answer-requires
     returns
-    refused-length-requires-2
+    lag-answer-requires-2
     returns-2
     history-requires
     push-requires
     slice-aggregate-kept
     copy-requires
-    lag-answer-requires
+    lag-answer-requires-3
     same-length
     returns-3)
