@@ -8,6 +8,7 @@ pub mod Lines
 pub mod Tables
 pub mod Lists
 pub mod Sums
+pub mod Rows
 pub mod Choices
 pub mod Plain
 pub mod Products

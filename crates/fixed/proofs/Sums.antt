@@ -1,5 +1,5 @@
 -- Sums whose terms are not negative: one clip at the end does.
-use mathlib.Core.Path.{_≡_, refl, ap}
+use mathlib.Core.Path.{_≡_, refl, ap, _∙_}
 use mathlib.Core.List.{List}
 use Prim.Native.Nat.{ℕ, zero, suc, _+_, _*_, _^_, _≤_, min}
 use native.Mathlib.Nat.{mul-le-mul}
@@ -23,7 +23,13 @@ square-is (negsuc n) = refl
 pub square-le : (v : ℤ) → SFits w16 v → natAbs v * natAbs v ≤ 2 ^ 30
 square-le v f = mul-le-mul (abs-fits f) (abs-fits f)
 
+-- from a start that is not negative either
+pub energy-from : (a : ℕ) (xs : List ℤ) (n : ℕ) → a ≤ 2147483647 →
+    L-sum (pos a) (λ k. L-mult (at xs k) (at xs k)) n ≡ pos (min (a + 2 * squares xs n) 2147483647)
+unfolding L-sum squares L-add L-mult
+energy-from a xs zero h = ap pos (omega arith)
+energy-from a xs (suc n) h = rw (energy-from a xs n h, square-is (at xs n)) (ap pos (omega arith))
+
 pub energy-is : (xs : List ℤ) (n : ℕ) → dot xs xs n ≡ pos (min (2 * squares xs n) 2147483647)
-unfolding dot L-sum squares L-add L-mult
-energy-is xs zero = ap pos (omega arith)
-energy-is xs (suc n) = rw (energy-is xs n, square-is (at xs n)) (ap pos (omega arith))
+unfolding dot
+energy-is xs n = energy-from 0 xs n (omega arith) ∙ ap pos (omega arith)

@@ -46,3 +46,15 @@ open-loop-lag n = record { passes = within 20 143 n; number = 3; detail = pos n 
 -- number 4: the subframe n is the expected one
 abbrev pub in-order : ℕ → ℕ → Check
 in-order expected n = record { passes = eqb n expected; number = 4; detail = pos expected }
+
+-- number 6: the pulse stage's lag is 19 to 144
+abbrev pub pulse-lag : ℕ → Check
+pulse-lag n = record { passes = within 19 144 n; number = 6; detail = pos n }
+
+-- number 8: a position word is at most 8191
+abbrev pub position-word : ℕ → Check
+position-word n = record { passes = leb n 8191; number = 8; detail = pos n }
+
+-- and a sign word at most 15
+abbrev pub sign-word : ℕ → Check
+sign-word n = record { passes = leb n 15; number = 8; detail = pos n }
