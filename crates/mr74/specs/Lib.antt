@@ -2,3 +2,4 @@
 pub mod Crossing
 pub mod Pitches
 pub mod OpenLoops
+pub mod Codebooks

@@ -1,4 +1,7 @@
 // The entries of 01 for Rust and C. An enum can't cross, so an answer is a struct: `number` is 0 where the entry accepted, else the refusal's number.
+use codebook::PulseReading;
+use codebook_search::Pulses;
+use codebook_target::SharpeningGain;
 use encoder_filtering::Filtering;
 use logarithm::Logarithm;
 use logarithm::Power;
@@ -17,13 +20,16 @@ ghost use mathlib.Core.Path.{_≡_};
 ghost use lib.ListN.{length};
 ghost use Rattle.logarithm.specs.Logarithms.{Log2};
 ghost use Rattle.logarithm.specs.Powers.{Pow2};
-ghost use Rattle.refusal.specs.Refused.{refused, number, detail, turned-down};
+ghost use Rattle.refusal.specs.Refused.{refused, number, detail, turned-down, accepts};
 ghost use Rattle.encoder_filtering.specs.Subframes.{told, lists, residual, prepare};
 ghost use Rattle.pitch.specs.Kinds.{told-lag};
 ghost use Rattle.pitch.specs.Readers.{read};
 ghost use Rattle.pitch_search.specs.Filters.{convolve};
 ghost use Rattle.pitch_search.specs.Searches.{Pitch-fr};
+ghost use Rattle.codebook.specs.Readers.{told-places};
+ghost use Rattle.codebook_search.specs.Pulses.{told-words, lent, pulses};
 ghost use Rattle.mr74.specs.Crossing.{power-answer};
+ghost use Rattle.mr74.specs.Codebooks.{pulses-answer, places-answer, read-pulses};
 ghost use Rattle.mr74.specs.OpenLoops.{lag-answer, open-loop};
 ghost use Rattle.mr74.specs.Pitches.{fraction-of, subframe-of, lag-of-state, searcher-of, reader-of, fresh-state, accepted-pitch, refused-pitch, pitch-answer, reading-answer, length-answer};
 
@@ -363,5 +369,130 @@ fn refused(refusal: Refusal, previous: PitchLag, next: Subframe) -> PitchAnswer
         previous_samples: previous.samples,
         previous_fraction: previous_fraction.thirds(),
         next: next.number(),
+    }
+}
+
+// ---- The pulses. The lists that are handed back are lent by the caller.
+
+#[repr(C)]
+pub struct PulsesAnswer {
+    pub number: u8,
+    pub magnitude: u64,
+    pub positions: u16,
+    pub signs: u16,
+}
+
+#[no_mangle]
+pub extern "C" fn mr74_pulse_search(
+    target: &[i16],
+    impulse_q12: &[i16],
+    lag: u16,
+    pitch_sharp_q14: SharpeningGain,
+    innovation_q13: &mut [i16],
+    filtered_q12: &mut [i16],
+    sharpened_impulse_q12: &mut [i16],
+) -> PulsesAnswer
+    ensures { λ r. ⌜ (r ≡ pulses-answer (pulses (now (target .entry)) (now («impulse_q12» .entry)) lag «pitch_sharp_q14» (lent (now («innovation_q13» .entry)) (now («filtered_q12» .entry)) (now («sharpened_impulse_q12» .entry))) .answer))
+        × (lent (now («innovation_q13» .exit)) (now («filtered_q12» .exit)) (now («sharpened_impulse_q12» .exit)) ≡ pulses (now (target .entry)) (now («impulse_q12» .entry)) lag «pitch_sharp_q14» (lent (now («innovation_q13» .entry)) (now («filtered_q12» .entry)) (now («sharpened_impulse_q12» .entry))) .after) ⌝ }
+{
+    let answer = codebook_search::search(
+        target,
+        impulse_q12,
+        lag,
+        pitch_sharp_q14,
+        innovation_q13,
+        filtered_q12,
+        sharpened_impulse_q12,
+    );
+    pulses_answer(answer)
+}
+
+fn pulses_answer(answer: Pulses) -> PulsesAnswer
+    ensures { λ r. ⌜ r ≡ pulses-answer (told-words answer) ⌝ }
+{
+    match answer {
+        Pulses::Words(words) => PulsesAnswer {
+            number: 0,
+            magnitude: 0,
+            positions: words.positions,
+            signs: words.signs,
+        },
+        Pulses::Refused(refusal) => {
+            let detail = refusal.detail();
+            PulsesAnswer {
+                number: refusal.number(),
+                magnitude: detail.magnitude,
+                positions: 0,
+                signs: 0,
+            }
+        }
+    }
+}
+
+#[repr(C)]
+pub struct PlacesAnswer {
+    pub number: u8,
+    pub magnitude: u64,
+    pub first: usize,
+    pub second: usize,
+    pub third: usize,
+    pub last: usize,
+}
+
+#[no_mangle]
+pub extern "C" fn mr74_read_pulses(
+    positions: u16,
+    signs: u16,
+    samples_q13: &mut [i16],
+) -> PlacesAnswer
+    ensures { λ r. ⌜ (r ≡ places-answer (read-pulses positions signs (now («samples_q13» .entry)) .answer))
+        × (now («samples_q13» .exit) ≡ read-pulses positions signs (now («samples_q13» .entry)) .after) ⌝ }
+{
+    if samples_q13.len() != 40 {
+        return places_answer(PulseReading::Refused(Refusal::Length(samples_q13.len())));
+    }
+    let codebook = codebook::read(positions, signs);
+    let reading = codebook.reading;
+    if is_read(reading) {
+        let samples = codebook.samples_q13;
+        let words: &[i16] = &samples;
+        fixed::copy(words, samples_q13);
+        return places_answer(reading);
+    }
+    places_answer(reading)
+}
+
+fn is_read(reading: PulseReading) -> bool
+    ensures { λ r. ⌜ r ≡ accepts (told-places reading) ⌝ }
+{
+    match reading {
+        PulseReading::Places(_) => true,
+        PulseReading::Refused(_) => false,
+    }
+}
+
+fn places_answer(reading: PulseReading) -> PlacesAnswer
+    ensures { λ r. ⌜ r ≡ places-answer (told-places reading) ⌝ }
+{
+    match reading {
+        PulseReading::Places(places) => PlacesAnswer {
+            number: 0,
+            magnitude: 0,
+            first: places.first,
+            second: places.second,
+            third: places.third,
+            last: places.last,
+        },
+        PulseReading::Refused(refusal) => {
+            let detail = refusal.detail();
+            PlacesAnswer {
+                number: refusal.number(),
+                magnitude: detail.magnitude,
+                first: 0,
+                second: 0,
+                third: 0,
+                last: 0,
+            }
+        }
     }
 }

@@ -7,6 +7,7 @@ use Rattle.refusal.specs.Refused.{values}
 use Rattle.logarithm.specs.Opens.{logarithm-opens}
 use Rattle.open_loop.specs.Opens.{open-loop-opens}
 use Rattle.pitch_search.specs.Opens.{search-opens}
+use Rattle.codebook_search.specs.Opens.{pulse-opens}
 use Rattle.points.specs.Answer.{powerOfTwo, answer}
 use Rattle.points.specs.Table.{Point, Holds, points, Points}
 
@@ -53,6 +54,14 @@ line-4 : Holds (point 9)
 unfolding points answer search-opens
 line-4 = refl
 
+line-6 : Holds (point 10)
+unfolding points answer pulse-opens
+line-6 = refl
+
+sharpened-21 : Holds (point 11)
+unfolding points answer pulse-opens
+sharpened-21 = refl
+
 pub computed : Points
 unfolding Points
-computed = (pow2-14, (index-of-85, (index-0, (index-196, (index-255, (after-144, (after-20, (line-2, (line-3, (line-4, tt))))))))))
+computed = (pow2-14, (index-of-85, (index-0, (index-196, (index-255, (after-144, (after-20, (line-2, (line-3, (line-4, (line-6, (sharpened-21, tt))))))))))))

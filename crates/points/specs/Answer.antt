@@ -1,7 +1,9 @@
 -- A question to one of the stages, and what its definition answers: the numbers in the order in which 01 prints them, or a refusal.
-use mathlib.Core.List.{List, [], _∷_}
+use mathlib.Core.List.{List, [], _∷_, map}
 use Prim.Native.Nat.{ℕ}
 use lib.IntN.{ℤ, pos}
+use lib.ListN.{replicate}
+use Rattle.fixed.specs.Lists.{at}
 use Rattle.refusal.specs.Refused.{Told, values, put}
 use Rattle.logarithm.specs.Powers.{Pow2}
 use Rattle.pitch.specs.declared.PitchLag.{PitchLag}
@@ -11,6 +13,9 @@ use Rattle.pitch.specs.Indexes.{absolute-index, absolute-lag, relative-lag}
 use Rattle.open_loop.specs.Detectors.{fresh-detector, Pitch-ol}
 use Rattle.pitch_search.specs.declared.Search.{Search}
 use Rattle.pitch_search.specs.Searches.{fresh-search, Pitch-fr}
+use Rattle.refusal.specs.Checks.{Outcome}
+use Rattle.codebook_search.specs.declared.PulseWords.{PulseWords}
+use Rattle.codebook_search.specs.Pulses.{Lists, lent, pulses}
 
 pub data Question : Type 0 where
   -- `pow2`: exponent and fraction
@@ -23,6 +28,9 @@ pub data Question : Type 0 where
   openLoop : List ℤ → Question
   -- a pitch search of the lists excitation, target and impulse, with two open-loop lags, after the same searches of the subframes in the list
   pitchAfter : List ℕ → List ℤ → List ℤ → List ℤ → ℕ → ℕ → ℕ → Question
+  -- a pulse search of target and impulse, with a lag and a gain: its two words; and words of its innovation, at these places
+  pulseWords : List ℤ → List ℤ → ℕ → ℤ → Question
+  innovationAt : List ℕ → List ℤ → List ℤ → ℕ → ℤ → Question
 
 abbrev pub lag-numbers : PitchLag → List ℤ
 lag-numbers l = pos (l .samples) ∷ thirds (l .fraction) ∷ []
@@ -32,6 +40,10 @@ abbrev pub searched-after : List ℕ → List ℤ → List ℤ → List ℤ → 
 searched-after [] exc target hs first second s = s
 searched-after (n ∷ ns) exc target hs first second s = searched-after ns exc target hs first second (Pitch-fr s exc target hs first second n .after)
 
+-- a pulse search into lists of 40 zeros
+abbrev pub pulse-search : List ℤ → List ℤ → ℕ → ℤ → Outcome PulseWords Lists
+pulse-search target hs lag gain = pulses target hs lag (record { 0 = gain }) (lent (replicate 40 (pos 0)) (replicate 40 (pos 0)) (replicate 40 (pos 0)))
+
 unfoldable pub answer : Question → Told (List ℤ)
 answer (powerOfTwo e f) = put (λ v. v ∷ []) (Pow2 e f)
 answer (absoluteReading index) = values (lag-numbers (absolute-lag index))
@@ -40,3 +52,5 @@ answer (absoluteIndex l) = values (pos (absolute-index l) ∷ [])
 answer (openLoop samples) = put (λ l. pos l ∷ []) (Pitch-ol fresh-detector samples .answer)
 answer (pitchAfter ns exc target hs first second n) =
     put (λ p. pos (p .index) ∷ lag-numbers (p .lag)) (Pitch-fr (searched-after ns exc target hs first second fresh-search) exc target hs first second n .answer)
+answer (pulseWords target hs lag gain) = put (λ w. pos (w .positions) ∷ pos (w .signs) ∷ []) (pulse-search target hs lag gain .answer)
+answer (innovationAt places target hs lag gain) = put (λ w. map (at (pulse-search target hs lag gain .after .innovation)) places) (pulse-search target hs lag gain .answer)

@@ -1,0 +1,548 @@
+// The pulse search, TS 26.073 code_4i40_17bits, from codebook/search.rs.
+use codebook_target::SharpeningGain;
+use refusal::Refusal;
+ghost use mathlib.Core.Bool.{cond};
+ghost use mathlib.Core.Path.{_≡_};
+ghost use Prim.Native.Nat.{_<_, _≤_, _^_};
+ghost use lib.IntN.{pos};
+ghost use lib.ListN.{length};
+ghost use lib.Signed.{ltZ};
+ghost use Rattle.fixed.specs.Lists.{at};
+ghost use Rattle.codebook.specs.Gray.{gray};
+ghost use Rattle.codebook.specs.Words.{position-bits, slot, sign-bit};
+ghost use Rattle.codebook_matrix.specs.Matrices.{cell};
+ghost use Rattle.codebook_search.specs.Choices.{step-to, exceeds, better, none-in, second-at, third-at, fourth-at, best-step, kept, trial-from, started, turn, turns, search-4i40};
+ghost use Rattle.codebook_search.specs.Pulses.{positions-of, signs-of, full-sign, delayed, through, filtered-at, filtered, build-code, code-4i40-17bits, told-words, lent, pulses};
+
+const SUBFRAME_SAMPLES: usize = 40;
+
+const TRACKS: usize = 5;
+
+const POSITIONS_PER_TRACK: usize = 8;
+
+const HALF_Q15: i16 = 16384;
+
+const QUARTER_Q15: i16 = 8192;
+
+const EIGHTH_Q15: i16 = 4096;
+
+const SIXTEENTH_Q15: i16 = 2048;
+
+const MIN_LAG: u16 = 19;
+
+const MAX_LAG: u16 = 144;
+
+const GRAY: [u16; 8] = [0, 1, 3, 2, 6, 4, 5, 7];
+
+pub struct PulseWords {
+    pub positions: u16,
+    pub signs: u16,
+}
+
+pub enum Pulses {
+    Words(PulseWords),
+    Refused(Refusal),
+}
+
+struct SearchResult {
+    words: PulseWords,
+    innovation_q13: [i16; 40],
+    filtered_q12: [i16; 40],
+    sharpened_impulse_q12: [i16; 40],
+}
+
+pub fn search(
+    target: &[i16],
+    impulse_q12: &[i16],
+    lag: u16,
+    pitch_sharp_q14: SharpeningGain,
+    innovation_q13: &mut [i16],
+    filtered_q12: &mut [i16],
+    sharpened_impulse_q12: &mut [i16],
+) -> Pulses
+    ensures { λ r. ⌜ (told-words r ≡ pulses (now (target .entry)) (now («impulse_q12» .entry)) lag «pitch_sharp_q14» (lent (now («innovation_q13» .entry)) (now («filtered_q12» .entry)) (now («sharpened_impulse_q12» .entry))) .answer)
+        × (lent (now («innovation_q13» .exit)) (now («filtered_q12» .exit)) (now («sharpened_impulse_q12» .exit)) ≡ pulses (now (target .entry)) (now («impulse_q12» .entry)) lag «pitch_sharp_q14» (lent (now («innovation_q13» .entry)) (now («filtered_q12» .entry)) (now («sharpened_impulse_q12» .entry))) .after) ⌝ }
+{
+    if target.len() != SUBFRAME_SAMPLES {
+        return Pulses::Refused(Refusal::Length(target.len()));
+    }
+    if impulse_q12.len() != SUBFRAME_SAMPLES {
+        return Pulses::Refused(Refusal::Length(impulse_q12.len()));
+    }
+    if innovation_q13.len() != SUBFRAME_SAMPLES {
+        return Pulses::Refused(Refusal::Length(innovation_q13.len()));
+    }
+    if filtered_q12.len() != SUBFRAME_SAMPLES {
+        return Pulses::Refused(Refusal::Length(filtered_q12.len()));
+    }
+    if sharpened_impulse_q12.len() != SUBFRAME_SAMPLES {
+        return Pulses::Refused(Refusal::Length(sharpened_impulse_q12.len()));
+    }
+    if lag < MIN_LAG {
+        return Pulses::Refused(Refusal::PulseLag(lag));
+    }
+    if MAX_LAG < lag {
+        return Pulses::Refused(Refusal::PulseLag(lag));
+    }
+    let found = searched(
+        &forty(target),
+        &forty(impulse_q12),
+        lag as usize,
+        pitch_sharp_q14,
+    );
+    let words = found.words;
+    let innovation = found.innovation_q13;
+    let filtered = found.filtered_q12;
+    let impulse = found.sharpened_impulse_q12;
+    let innovation_words: &[i16] = &innovation;
+    let filtered_words: &[i16] = &filtered;
+    let impulse_words: &[i16] = &impulse;
+    fixed::copy(innovation_words, innovation_q13);
+    fixed::copy(filtered_words, filtered_q12);
+    fixed::copy(impulse_words, sharpened_impulse_q12);
+    Pulses::Words(words)
+}
+
+fn forty(list: &[i16]) -> [i16; 40]
+    requires { ⌜ length (now list) ≡ 40 ⌝ }
+    ensures { λ r. ⌜ r ≡ now (list .entry) ⌝ }
+{
+    let mut words = [0i16; 40];
+    fixed::copy(list, &mut words);
+    words
+}
+
+fn searched(
+    target: &[i16; 40],
+    impulse_q12: &[i16; 40],
+    lag: usize,
+    gain: SharpeningGain,
+) -> SearchResult
+    ensures { λ r. ⌜ r ≡ code-4i40-17bits (now (target .entry)) (now («impulse_q12» .entry)) lag gain ⌝ }
+{
+    let sharp = codebook_target::doubled(gain);
+    let impulse = codebook_target::sharpened(impulse_q12, lag, sharp);
+    let correlation = codebook_target::target_correlation(target, &impulse);
+    let signs = codebook_target::signs(&correlation);
+    let magnitudes = codebook_target::magnitudes(&correlation);
+    let left = codebook_target::starts(&magnitudes);
+    let table = codebook_matrix::impulse_correlation(&impulse, &signs);
+    written(
+        select(&magnitudes, &table, &left),
+        &impulse,
+        &signs,
+        lag,
+        sharp,
+    )
+}
+
+// ---- TS 26.073 search_4i40.
+
+// A pulse more: the sum of the correlations so far, its square, the energy so far.
+struct Step {
+    place: usize,
+    sum: i16,
+    square: i16,
+    energy: i16,
+}
+
+// Four pulses in the order in which they were chosen.
+struct Trial {
+    first: usize,
+    second: usize,
+    third: usize,
+    fourth: usize,
+    square: i16,
+    energy: i16,
+}
+
+fn select(correlation: &[i16; 40], table: &[[i16; 40]; 40], left: &[i16; 40]) -> Trial
+    ensures { λ r. ⌜ r ≡ search-4i40 (now (correlation .entry)) (now (table .entry)) (now (left .entry)) ⌝ }
+{
+    let held = Trial {
+        first: 0,
+        second: 1,
+        third: 2,
+        fourth: 3,
+        square: -1,
+        energy: 1,
+    };
+    turns(
+        turns(held, correlation, table, left, 3),
+        correlation,
+        table,
+        left,
+        4,
+    )
+}
+
+// Each of the four tracks starts once.
+fn turns(
+    held: Trial,
+    correlation: &[i16; 40],
+    table: &[[i16; 40]; 40],
+    left: &[i16; 40],
+    last: usize,
+) -> Trial
+    requires { ⌜ last < 5 ⌝ }
+    ensures { λ r. ⌜ r ≡ turns (now (correlation .entry)) (now (table .entry)) (now (left .entry)) last held ⌝ }
+{
+    let from_0 = turn(held, correlation, table, left, 0, 1, 2, last);
+    let from_last = turn(from_0, correlation, table, left, last, 0, 1, 2);
+    let from_2 = turn(from_last, correlation, table, left, 2, last, 0, 1);
+    turn(from_2, correlation, table, left, 1, 2, last, 0)
+}
+
+fn turn(
+    held: Trial,
+    correlation: &[i16; 40],
+    table: &[[i16; 40]; 40],
+    left: &[i16; 40],
+    a: usize,
+    b: usize,
+    c: usize,
+    d: usize,
+) -> Trial
+    requires { ⌜ (a < 5) × (b < 5) × (c < 5) × (d < 5) ⌝ }
+    ensures { λ r. ⌜ r ≡ turn (now (correlation .entry)) (now (table .entry)) (now (left .entry)) a b c d held 8 ⌝ }
+{
+    let mut best = held;
+    for n in 0..POSITIONS_PER_TRACK {
+        best = started(best, correlation, table, left, a + TRACKS * n, b, c, d);
+    }
+    best
+}
+
+fn started(
+    held: Trial,
+    correlation: &[i16; 40],
+    table: &[[i16; 40]; 40],
+    left: &[i16; 40],
+    first: usize,
+    b: usize,
+    c: usize,
+    d: usize,
+) -> Trial
+    requires { ⌜ (first < 40) × (b < 5) × (c < 5) × (d < 5) ⌝ }
+    ensures { λ r. ⌜ r ≡ started (now (correlation .entry)) (now (table .entry)) (now (left .entry)) b c d held first ⌝ }
+{
+    if 0 <= left[first] {
+        return kept(held, tried(correlation, table, first, b, c, d));
+    }
+    held
+}
+
+fn kept(held: Trial, trial: Trial) -> Trial
+    ensures { λ r. ⌜ r ≡ kept held trial ⌝ }
+{
+    if exceeds(trial.square, trial.energy, held.square, held.energy) {
+        return trial;
+    }
+    held
+}
+
+// The other three tracks take their best places in turn.
+fn tried(
+    correlation: &[i16; 40],
+    table: &[[i16; 40]; 40],
+    first: usize,
+    b: usize,
+    c: usize,
+    d: usize,
+) -> Trial
+    requires { ⌜ (first < 40) × (b < 5) × (c < 5) × (d < 5) ⌝ }
+    ensures { λ r. ⌜ r ≡ trial-from (now (correlation .entry)) (now (table .entry)) first b c d ⌝ }
+{
+    let one = second(correlation, table, first, b);
+    let two = third(correlation, table, first, one, c);
+    let three = fourth(correlation, table, first, one.place, two, d);
+    Trial {
+        first,
+        second: one.place,
+        third: two.place,
+        fourth: three.place,
+        square: three.square,
+        energy: three.energy,
+    }
+}
+
+fn second(correlation: &[i16; 40], table: &[[i16; 40]; 40], first: usize, track: usize) -> Step
+    requires { ⌜ (first < 40) × (track < 5) ⌝ }
+    ensures { λ r. ⌜ r ≡ best-step (second-at (now (correlation .entry)) (now (table .entry)) first) track 8 ⌝ }
+{
+    let mut held = none_in(track);
+    for n in 0..POSITIONS_PER_TRACK {
+        held = better(
+            held,
+            second_at(correlation, table, first, track + TRACKS * n),
+        );
+    }
+    held
+}
+
+fn third(
+    correlation: &[i16; 40],
+    table: &[[i16; 40]; 40],
+    first: usize,
+    one: Step,
+    track: usize,
+) -> Step
+    requires { ⌜ (first < 40) × (one .place < 40) × (track < 5) ⌝ }
+    ensures { λ r. ⌜ r ≡ best-step (third-at (now (correlation .entry)) (now (table .entry)) first one) track 8 ⌝ }
+{
+    let mut held = none_in(track);
+    for n in 0..POSITIONS_PER_TRACK {
+        held = better(
+            held,
+            third_at(correlation, table, first, one, track + TRACKS * n),
+        );
+    }
+    held
+}
+
+fn fourth(
+    correlation: &[i16; 40],
+    table: &[[i16; 40]; 40],
+    first: usize,
+    second: usize,
+    two: Step,
+    track: usize,
+) -> Step
+    requires { ⌜ (first < 40) × (second < 40) × (two .place < 40) × (track < 5) ⌝ }
+    ensures { λ r. ⌜ r ≡ best-step (fourth-at (now (correlation .entry)) (now (table .entry)) first second two) track 8 ⌝ }
+{
+    let mut held = none_in(track);
+    for n in 0..POSITIONS_PER_TRACK {
+        held = better(
+            held,
+            fourth_at(correlation, table, first, second, two, track + TRACKS * n),
+        );
+    }
+    held
+}
+
+fn second_at(correlation: &[i16; 40], table: &[[i16; 40]; 40], first: usize, place: usize) -> Step
+    requires { ⌜ (first < 40) × (place < 40) ⌝ }
+    ensures { λ r. ⌜ r ≡ second-at (now (correlation .entry)) (now (table .entry)) first place ⌝ }
+{
+    let base = fixed::product(cell(table, first, first), QUARTER_Q15);
+    let own = fixed::mac(base, cell(table, place, place), QUARTER_Q15);
+    let energy = fixed::mac(own, cell(table, first, place), HALF_Q15);
+    step_to(
+        place,
+        fixed::add16(correlation[first], correlation[place]),
+        energy,
+    )
+}
+
+fn third_at(
+    correlation: &[i16; 40],
+    table: &[[i16; 40]; 40],
+    first: usize,
+    one: Step,
+    place: usize,
+) -> Step
+    requires { ⌜ (first < 40) × (one .place < 40) × (place < 40) ⌝ }
+    ensures { λ r. ⌜ r ≡ third-at (now (correlation .entry)) (now (table .entry)) first one place ⌝ }
+{
+    let base = fixed::product(one.energy, QUARTER_Q15);
+    let own = fixed::mac(base, cell(table, place, place), SIXTEENTH_Q15);
+    let second = fixed::mac(own, cell(table, one.place, place), EIGHTH_Q15);
+    let energy = fixed::mac(second, cell(table, first, place), EIGHTH_Q15);
+    step_to(place, fixed::add16(one.sum, correlation[place]), energy)
+}
+
+fn fourth_at(
+    correlation: &[i16; 40],
+    table: &[[i16; 40]; 40],
+    first: usize,
+    second: usize,
+    two: Step,
+    place: usize,
+) -> Step
+    requires { ⌜ (first < 40) × (second < 40) × (two .place < 40) × (place < 40) ⌝ }
+    ensures { λ r. ⌜ r ≡ fourth-at (now (correlation .entry)) (now (table .entry)) first second two place ⌝ }
+{
+    let base = fixed::deposit_high(two.energy);
+    let own = fixed::mac(base, cell(table, place, place), SIXTEENTH_Q15);
+    let third = fixed::mac(own, cell(table, two.place, place), EIGHTH_Q15);
+    let second_too = fixed::mac(third, cell(table, second, place), EIGHTH_Q15);
+    let energy = fixed::mac(second_too, cell(table, first, place), EIGHTH_Q15);
+    step_to(place, fixed::add16(two.sum, correlation[place]), energy)
+}
+
+fn cell(table: &[[i16; 40]; 40], i: usize, j: usize) -> i16
+    requires { ⌜ (i < 40) × (j < 40) ⌝ }
+    ensures { λ r. ⌜ r ≡ cell (now (table .entry)) i j ⌝ }
+{
+    table[i][j]
+}
+
+fn step_to(place: usize, sum: i16, energy: i32) -> Step
+    ensures { λ r. ⌜ r ≡ step-to place sum energy ⌝ }
+{
+    Step {
+        place,
+        sum,
+        square: fixed::fractional(sum, sum),
+        energy: fixed::rounded(energy),
+    }
+}
+
+fn none_in(track: usize) -> Step
+    ensures { λ r. ⌜ r ≡ none-in track ⌝ }
+{
+    Step {
+        place: track,
+        sum: 0,
+        square: -1,
+        energy: 1,
+    }
+}
+
+fn better(held: Step, next: Step) -> Step
+    ensures { λ r. ⌜ r ≡ better held next ⌝ }
+{
+    if exceeds(next.square, next.energy, held.square, held.energy) {
+        return next;
+    }
+    held
+}
+
+// Whether a square over its energy is greater than that held: products in place of the quotients.
+fn exceeds(square: i16, energy: i16, held_square: i16, held_energy: i16) -> bool
+    ensures { λ r. ⌜ r ≡ exceeds square energy «held_square» «held_energy» ⌝ }
+{
+    0 < fixed::msu(fixed::product(held_energy, square), held_square, energy)
+}
+
+// ---- TS 26.073 build_code.
+
+fn written(
+    chosen: Trial,
+    impulse: &[i16; 40],
+    signs: &[i16; 40],
+    lag: usize,
+    sharp_q15: i16,
+) -> SearchResult
+    requires { ⌜ (chosen .first < 40) × (chosen .second < 40) × (chosen .third < 40) × (chosen .fourth < 40) ⌝ }
+    ensures { λ r. ⌜ r ≡ build-code chosen (now (impulse .entry)) (now (signs .entry)) lag «sharp_q15» ⌝ }
+{
+    let positions = positions_of(chosen);
+    let sign_bits = signs_of(chosen, signs);
+    let codebook = codebook::read(positions, sign_bits);
+    let samples = codebook.samples_q13;
+    SearchResult {
+        words: PulseWords {
+            positions,
+            signs: sign_bits,
+        },
+        innovation_q13: codebook_target::sharpened(&samples, lag, sharp_q15),
+        filtered_q12: filtered(chosen, impulse, signs),
+        sharpened_impulse_q12: *impulse,
+    }
+}
+
+fn positions_of(chosen: Trial) -> u16
+    requires { ⌜ (chosen .first < 40) × (chosen .second < 40) × (chosen .third < 40) × (chosen .fourth < 40) ⌝ }
+    ensures { λ r. ⌜ r ≡ positions-of chosen ⌝ }
+{
+    let table = GRAY;
+    position_bits(chosen.first, &table)
+        + position_bits(chosen.second, &table)
+        + position_bits(chosen.third, &table)
+        + position_bits(chosen.fourth, &table)
+}
+
+fn position_bits(place: usize, table: &[u16; 8]) -> u16
+    requires { ⌜ (now table ≡ gray) × (place < 40) ⌝ }
+    ensures { λ r. ⌜ (r ≡ position-bits place) × (r ≤ 7680) ⌝ }
+{
+    let number = table[place / TRACKS];
+    match place % TRACKS {
+        0 => number,
+        1 => number * 8,
+        2 => number * 64,
+        3 => number * 1024,
+        _ => number * 1024 + 512,
+    }
+}
+
+fn signs_of(chosen: Trial, signs: &[i16; 40]) -> u16
+    requires { ⌜ (chosen .first < 40) × (chosen .second < 40) × (chosen .third < 40) × (chosen .fourth < 40) ⌝ }
+    ensures { λ r. ⌜ r ≡ signs-of chosen (now (signs .entry)) ⌝ }
+{
+    sign_bit(signs, chosen.first)
+        + sign_bit(signs, chosen.second)
+        + sign_bit(signs, chosen.third)
+        + sign_bit(signs, chosen.fourth)
+}
+
+fn sign_bit(signs: &[i16; 40], place: usize) -> u16
+    requires { ⌜ place < 40 ⌝ }
+    ensures { λ r. ⌜ (r ≡ sign-bit (ltZ (pos 0) (at (now (signs .entry)) place)) place) × (r ≤ 8) ⌝ }
+{
+    if 0 < signs[place] {
+        return bit(place);
+    }
+    0
+}
+
+fn bit(place: usize) -> u16
+    ensures { λ r. ⌜ (r ≡ 2 ^ slot place) × (r ≤ 8) ⌝ }
+{
+    match place % TRACKS {
+        0 => 1,
+        1 => 2,
+        2 => 4,
+        _ => 8,
+    }
+}
+
+// In the order of the choice, clipped after every addition.
+fn filtered(chosen: Trial, impulse: &[i16; 40], signs: &[i16; 40]) -> [i16; 40]
+    requires { ⌜ (chosen .first < 40) × (chosen .second < 40) × (chosen .third < 40) × (chosen .fourth < 40) ⌝ }
+    ensures { λ r. ⌜ r ≡ filtered chosen (now (impulse .entry)) (now (signs .entry)) ⌝ }
+{
+    let mut words = [0i16; 40];
+    for i in 0..SUBFRAME_SAMPLES {
+        words[i] = filtered_at(chosen, impulse, signs, i);
+    }
+    words
+}
+
+fn filtered_at(chosen: Trial, impulse: &[i16; 40], signs: &[i16; 40], i: usize) -> i16
+    requires { ⌜ (chosen .first < 40) × (chosen .second < 40) × (chosen .third < 40) × (chosen .fourth < 40) × (i < 40) ⌝ }
+    ensures { λ r. ⌜ r ≡ filtered-at chosen (now (impulse .entry)) (now (signs .entry)) i ⌝ }
+{
+    let one = through(0, impulse, signs, chosen.first, i);
+    let two = through(one, impulse, signs, chosen.second, i);
+    let three = through(two, impulse, signs, chosen.third, i);
+    fixed::rounded(through(three, impulse, signs, chosen.fourth, i))
+}
+
+fn through(sum: i32, impulse: &[i16; 40], signs: &[i16; 40], place: usize, i: usize) -> i32
+    requires { ⌜ (place < 40) × (i < 40) ⌝ }
+    ensures { λ r. ⌜ r ≡ through (now (impulse .entry)) (now (signs .entry)) i sum place ⌝ }
+{
+    fixed::mac(sum, delayed(impulse, place, i), full_sign(signs[place]))
+}
+
+fn delayed(impulse: &[i16; 40], place: usize, i: usize) -> i16
+    requires { ⌜ i < 40 ⌝ }
+    ensures { λ r. ⌜ r ≡ delayed (now (impulse .entry)) place i ⌝ }
+{
+    if i < place {
+        return 0;
+    }
+    impulse[i - place]
+}
+
+fn full_sign(sign: i16) -> i16
+    ensures { λ r. ⌜ r ≡ full-sign sign ⌝ }
+{
+    if 0 < sign {
+        return 32767;
+    }
+    -32768
+}
