@@ -69,12 +69,25 @@ impl Line {
         let mut line = Self::new("cases that must occur");
         for (case, count) in counts {
             let never = if count == 0 { ": never met" } else { "" };
-            let text = format!("{count:>9} {case}{never}");
-            line.shown.push((line.compared, text));
+            line.show_count(count, &format!("{case}{never}"));
             line.compared += 1;
             line.differ += u64::from(count == 0);
         }
         line
+    }
+
+    /// Cases that may never be met, each with how often they were.
+    pub fn of_counts(counts: impl IntoIterator<Item = (&'static str, u64)>) -> Self {
+        let mut line = Self::new("cases that are only counted");
+        for (case, count) in counts {
+            line.show_count(count, case);
+        }
+        line
+    }
+
+    fn show_count(&mut self, count: u64, case: &str) {
+        let place = self.shown.len() as u64;
+        self.shown.push((place, format!("{count:>9} {case}")));
     }
 
     #[cold]

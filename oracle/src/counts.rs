@@ -78,6 +78,7 @@ impl<C: Counted> Found<C> {
     pub fn case(&mut self, case: C, met: bool) {
         self.0 |= u128::from(met) << case.place();
     }
+
     pub fn add(&mut self, other: &Self) {
         self.0 |= other.0;
     }
@@ -86,8 +87,23 @@ impl<C: Counted> Found<C> {
         self.0 >> case.place() & 1 != 0
     }
 
+    /// Asserts that a sample's calls met all the cases that are asked for.
+    pub fn assert_met(&self, asked: impl Fn(C) -> bool) {
+        for &(case, text) in C::TEXTS {
+            assert!(
+                !asked(case) || self.has(case),
+                "no call for the sample: {text}"
+            );
+        }
+    }
+
     /// Whether the other has all of these.
     pub fn is_within(&self, other: &Self) -> bool {
-        self.0 & !other.0 == 0
+        self.missing_in(other) == 0
+    }
+
+    /// How many of these the other has not.
+    pub fn missing_in(&self, other: &Self) -> u32 {
+        (self.0 & !other.0).count_ones()
     }
 }

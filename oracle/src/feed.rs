@@ -67,6 +67,13 @@ pub fn words(bytes: &[u8]) -> Vec<i16> {
         .collect()
 }
 
+/// Takes the first words away.
+pub fn taken<const N: usize>(words: &mut &[i16]) -> [i16; N] {
+    let (first, rest) = words.split_first_chunk().expect("a record's words");
+    *words = rest;
+    *first
+}
+
 /// The bytes of which `words` makes these words.
 pub fn bytes(words: &[i16]) -> Vec<u8> {
     words.iter().flat_map(|word| word.to_be_bytes()).collect()

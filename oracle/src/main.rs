@@ -1,9 +1,9 @@
 //! Compares the library with the published Rust and reports where their answers differ.
 //!
 //! Every input is compared where a function has at most 2^32 of them; of the others the
-//! combinations of the ends of the argument types and a fixed pseudo-random sample. The search and
-//! the detector have a state, so they are compared in chains of calls. Where a comparison is made of
-//! words that were drawn, the cases that it must meet are counted.
+//! combinations of the ends of the argument types and a fixed pseudo-random sample. The pitch search
+//! and the detector have a state, so they are compared in chains of calls. Where a comparison is
+//! made of words that were drawn, the cases that it must meet are counted.
 
 mod calls;
 mod cases;
@@ -19,6 +19,7 @@ mod open_loop;
 mod operators;
 mod project;
 mod published;
+mod pulses;
 mod reader;
 mod record;
 mod search;
@@ -72,6 +73,7 @@ fn compare_functions(names: &[&str]) -> Result<ExitCode, String> {
     functions.extend(search::functions());
     functions.extend(open_loop::functions());
     functions.extend(filtering::functions());
+    functions.extend(pulses::functions());
     for name in names {
         if !functions.iter().any(|function| function.name == *name) {
             let mut known: Vec<_> = functions.iter().map(|function| function.name).collect();
@@ -103,10 +105,11 @@ fn compare_functions(names: &[&str]) -> Result<ExitCode, String> {
 /// Writes each replay program's sample to the program's folder below this one.
 fn record_samples(folder: &str) -> Result<ExitCode, String> {
     type Write = fn(&Path) -> io::Result<usize>;
-    let samples: [(&str, Write); 3] = [
+    let samples: [(&str, Write); 4] = [
         ("replay", record::write),
         ("replay_open_loop", open_loop::record::write),
         ("replay_filtering", filtering::record::write),
+        ("replay_pulses", pulses::record::write),
     ];
     for (program, write) in samples {
         let folder = Path::new(folder).join(program);

@@ -106,6 +106,35 @@ pub struct OpenLoopAnswer {
     pub lag: u16,
 }
 
+/// The gain of the pitch sharpening, with 14 fraction bits.
+#[repr(C)]
+#[derive(Debug, Clone, Copy, PartialEq, Eq)]
+pub struct SharpeningGain(pub i16);
+
+/// The number of the refusal, 0 where accepted, with its detail; and the words of the pulses, 0
+/// where refused.
+#[repr(C)]
+#[derive(Debug, Clone, Copy, PartialEq, Eq)]
+pub struct PulsesAnswer {
+    pub number: u8,
+    pub magnitude: u64,
+    pub positions: u16,
+    pub signs: u16,
+}
+
+/// The number of the refusal, 0 where accepted, with its detail; and the places of the pulses, 0
+/// where refused.
+#[repr(C)]
+#[derive(Debug, Clone, Copy, PartialEq, Eq)]
+pub struct PulseReadingAnswer {
+    pub number: u8,
+    pub magnitude: u64,
+    pub first: usize,
+    pub second: usize,
+    pub third: usize,
+    pub last: usize,
+}
+
 // These take and give numbers alone, or borrow lists of a fixed length, and are defined on all
 // values of their types, so any call of them is safe.
 unsafe extern "C" {
@@ -204,6 +233,26 @@ unsafe extern "C" {
         error_q0: *mut i16,
         error_length: usize,
     ) -> LengthAnswer;
+    fn mr74_pulse_search(
+        target: *const i16,
+        target_length: usize,
+        impulse_q12: *const i16,
+        impulse_length: usize,
+        lag: u16,
+        pitch_sharp_q14: SharpeningGain,
+        innovation_q13: *mut i16,
+        innovation_length: usize,
+        filtered_q12: *mut i16,
+        filtered_length: usize,
+        sharpened_impulse_q12: *mut i16,
+        sharpened_impulse_length: usize,
+    ) -> PulsesAnswer;
+    fn mr74_read_pulses(
+        positions: u16,
+        signs: u16,
+        samples_q13: *mut i16,
+        samples_length: usize,
+    ) -> PulseReadingAnswer;
 }
 
 pub fn convolve(input: &[i16], impulse_q12: &[i16], output: &mut [i16]) -> LengthAnswer {
@@ -308,6 +357,46 @@ pub fn prepare(read: [&[i16]; 5], written: [&mut [i16]; 4]) -> LengthAnswer {
             target.len(),
             error.as_mut_ptr(),
             error.len(),
+        )
+    }
+}
+
+/// Reads the target and the impulse response, and writes the innovation, the filtered pulses and
+/// the sharpened impulse response.
+pub fn pulse_search(
+    [target, impulse_q12]: [&[i16]; 2],
+    lag: u16,
+    pitch_sharp_q14: SharpeningGain,
+    written: [&mut [i16]; 3],
+) -> PulsesAnswer {
+    let [innovation, filtered, sharpened_impulse] = written;
+    // SAFETY: each pointer is that of a list with the length beside it, borrowed for the call.
+    unsafe {
+        mr74_pulse_search(
+            target.as_ptr(),
+            target.len(),
+            impulse_q12.as_ptr(),
+            impulse_q12.len(),
+            lag,
+            pitch_sharp_q14,
+            innovation.as_mut_ptr(),
+            innovation.len(),
+            filtered.as_mut_ptr(),
+            filtered.len(),
+            sharpened_impulse.as_mut_ptr(),
+            sharpened_impulse.len(),
+        )
+    }
+}
+
+pub fn read_pulses(positions: u16, signs: u16, samples_q13: &mut [i16]) -> PulseReadingAnswer {
+    // SAFETY: the pointer is that of a list with the length beside it, borrowed for the call.
+    unsafe {
+        mr74_read_pulses(
+            positions,
+            signs,
+            samples_q13.as_mut_ptr(),
+            samples_q13.len(),
         )
     }
 }

@@ -14,7 +14,7 @@ use crate::{
     inputs::{Argument, Random},
     published,
 };
-use std::{fs, io, path::Path};
+use std::{fmt::Display, fs, io, path::Path};
 
 const TITLE: &str = "mr74 replay\n";
 const ARGUMENTS: usize = 3;
@@ -40,6 +40,15 @@ pub fn write_files(folder: &Path, stdin: &[u8], stdout: &str) -> io::Result<()> 
     fs::create_dir_all(folder)?;
     fs::write(folder.join("stdin"), stdin)?;
     fs::write(folder.join("stdout"), stdout)
+}
+
+/// Adds a line with a name and numbers.
+pub fn push_line(lines: &mut String, name: &str, numbers: impl IntoIterator<Item: Display>) {
+    lines.push_str(name);
+    for number in numbers {
+        lines.push_str(&format!(" {number}"));
+    }
+    lines.push('\n');
 }
 
 struct Sample {

@@ -2,6 +2,7 @@
 
 use crate::{
     codec::mr74::{
+        codebook::{Codebook, search::SearchResult},
         encoder_filtering::PreparedSubframe,
         energy::inverse_sqrt,
         gain::quantization,
@@ -16,7 +17,7 @@ use crate::{
     inputs::{Argument, Random},
     open_loop::{HALF_FRAME, HISTORY},
     project::*,
-    published,
+    published, pulses,
     speech::Speech,
     subframes::{number, state},
     words::{EXCITATION, SUBFRAME, uniform},
@@ -77,6 +78,7 @@ pub fn report() {
     }
     report_pushes();
     report_filtering();
+    report_pulses();
 }
 
 fn report_operators() {
@@ -342,4 +344,48 @@ fn library_prepare(call: &Filtering) -> (LengthAnswer, [[i16; SUBFRAME]; 4]) {
 #[inline(never)]
 fn published_prepare(call: &Filtering) -> PreparedSubframe {
     call.prepare()
+}
+
+/// A call of the pulse search, for both sides.
+type Pulses = pulses::Call;
+
+fn report_pulses() {
+    type Draw = fn(&mut Random) -> Pulses;
+    let kinds: [(&str, Draw); 3] = [
+        ("speech", |random| pulses::speech_call(random, 12)),
+        ("quiet speech", |random| pulses::speech_call(random, 5)),
+        ("full-scale words", pulses::full_scale_call),
+    ];
+    for (kind, draw) in kinds {
+        let random = &mut Random::at(0);
+        let calls: Vec<_> = (0..LISTS).map(|_| draw(random)).collect();
+        let calls: Vec<_> = calls.iter().collect();
+        let name = format!("pulse_search ({kind})");
+        measure(&name, &calls, library_pulses, published_pulses);
+    }
+    ratio::<(u16, u16), _, _>(
+        "read_pulses",
+        |(positions, signs)| positions < 8192 && signs < 16,
+        library_reading,
+        |(positions, signs)| Codebook::try_new(positions, signs),
+    );
+}
+
+#[inline(never)]
+fn library_pulses(call: &Pulses) -> (PulsesAnswer, [[i16; SUBFRAME]; 3]) {
+    let mut outputs = [[0; SUBFRAME]; 3];
+    let written = outputs.each_mut().map(|output| output.as_mut_slice());
+    let answer = pulse_search(call.read(), call.lag, SharpeningGain(call.gain), written);
+    (answer, outputs)
+}
+
+#[inline(never)]
+fn published_pulses(call: &Pulses) -> SearchResult {
+    call.search()
+}
+
+fn library_reading((positions, signs): (u16, u16)) -> (PulseReadingAnswer, [i16; SUBFRAME]) {
+    let mut samples = [0; SUBFRAME];
+    let answer = read_pulses(positions, signs, &mut samples);
+    (answer, samples)
 }

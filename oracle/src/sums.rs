@@ -15,13 +15,17 @@ impl Sum {
     pub fn of(terms: impl IntoIterator<Item = i32>) -> Self {
         let mut sum = Self::default();
         for term in terms {
-            let next = i64::from(sum.clipped) + i64::from(term);
-            sum.clipped = clip32(next);
-            sum.clips_above |= next > i64::from(sum.clipped);
-            sum.clips_below |= next < i64::from(sum.clipped);
-            sum.exact += i64::from(term);
+            sum.add(term);
         }
         sum
+    }
+
+    pub fn add(&mut self, term: i32) {
+        let next = i64::from(self.clipped) + i64::from(term);
+        self.clipped = clip32(next);
+        self.clips_above |= next > i64::from(self.clipped);
+        self.clips_below |= next < i64::from(self.clipped);
+        self.exact += i64::from(term);
     }
 
     pub fn clips(&self) -> bool {
@@ -32,6 +36,10 @@ impl Sum {
     pub fn clips_early(&self) -> bool {
         self.clipped != clip32(self.exact)
     }
+}
+
+pub fn clip16(value: i32) -> i16 {
+    value.clamp(i16::MIN.into(), i16::MAX.into()) as i16
 }
 
 pub fn clip32(value: i64) -> i32 {

@@ -3,7 +3,7 @@
 use super::{COEFFICIENTS, INPUT, ORDER};
 use crate::{
     codec::mr74::encoder_filtering::{PreparedSubframe, prepare, residual},
-    feed::{self, Record},
+    feed::{self, Record, taken},
     words::SUBFRAME,
 };
 
@@ -67,11 +67,4 @@ pub fn call(record: &Record) -> Option<Call> {
         error_history: taken(&mut rest),
         weighting_history: taken(&mut rest),
     })
-}
-
-/// Takes the first words away.
-fn taken<const N: usize>(words: &mut &[i16]) -> [i16; N] {
-    let (first, rest) = words.split_first_chunk().expect("a record's words");
-    *words = rest;
-    *first
 }

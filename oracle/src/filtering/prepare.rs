@@ -1,16 +1,16 @@
 //! The comparison of `prepare`.
 
 use super::{
-    Answered, COEFFICIENTS, Compared, INPUT, ORDER,
+    COEFFICIENTS, Compared, INPUT, ORDER,
     cases::{CHANGES, Case, FACTORS, PARTS, Prepared},
     filters,
     refusals::{Lengths, Refusals, refused},
     sources::{self, Drawn},
-    unwritten,
 };
 use crate::{
     compare::Line,
     counts::Cases,
+    lent::{Answered, unwritten},
     project::{self, LengthAnswer},
     subframes::length_answer,
     words::SUBFRAME,

@@ -14,9 +14,9 @@ use super::{
 };
 use crate::{
     codec::mr74::encoder_filtering::PreparedSubframe,
-    counts::{Counted, Found},
+    counts::Found,
     feed::bytes,
-    record::write_files,
+    record::{push_line, write_files},
 };
 use std::{io, path::Path};
 
@@ -97,22 +97,13 @@ impl Met {
 
     /// Asserts that no case is missing that a call without a feed can meet.
     fn assert_all(&self) {
-        assert_met(&self.sources, |case| !case.needs_feed());
-        assert_met(&self.residual, |_| true);
-        assert_met(&self.prepare, |_| true);
+        self.sources.assert_met(|case| !case.needs_feed());
+        self.residual.assert_met(|_| true);
+        self.prepare.assert_met(|_| true);
         for ((part, _), filter) in PARTS.iter().zip(&self.filters) {
-            assert_met(filter, |case| part.reaches(case));
+            filter.assert_met(|case| part.reaches(case));
         }
         assert_eq!(self.factors, [true; FACTORS], "a factor without a call");
-    }
-}
-
-fn assert_met<C: Counted>(met: &Found<C>, asked: impl Fn(C) -> bool) {
-    for &(case, text) in C::TEXTS {
-        assert!(
-            !asked(case) || met.has(case),
-            "no call for the sample: {text}"
-        );
     }
 }
 
@@ -155,7 +146,7 @@ impl Sample {
     fn record(&mut self, call: &Call) {
         self.records += 1;
         self.stdin.extend(bytes(&call.lists().concat()));
-        self.line("residual", &call.residual());
+        push_line(&mut self.stdout, "residual", call.residual());
         let PreparedSubframe {
             residual_q0,
             impulse_q12,
@@ -163,14 +154,6 @@ impl Sample {
             error_q0,
         } = call.prepare();
         let words = [residual_q0, impulse_q12, target_q0, error_q0].concat();
-        self.line("filter", &words);
-    }
-
-    fn line(&mut self, name: &str, words: &[i16]) {
-        self.stdout.push_str(name);
-        for word in words {
-            self.stdout.push_str(&format!(" {word}"));
-        }
-        self.stdout.push('\n');
+        push_line(&mut self.stdout, "filter", words);
     }
 }

@@ -1,14 +1,14 @@
 //! The comparison of `residual`.
 
 use super::{
-    Answered, COEFFICIENTS, Call, Compared, INPUT, filters,
+    COEFFICIENTS, Call, Compared, INPUT, filters,
     refusals::{Lengths, Refusals, refused},
     sources::{self, Drawn},
-    unwritten,
 };
 use crate::{
     compare::Line,
     counts::{Cases, Found},
+    lent::{Answered, unwritten},
     project::{self, LengthAnswer},
     subframes::length_answer,
     words::SUBFRAME,
