@@ -6,7 +6,7 @@ use Prim.Native.Nat.{ℕ, zero, suc, _+_, _≤_, _<_}
 use native.Mathlib.Omega.{arith}
 use lib.Dec.{ltb, leb, eqb}
 use lib.IntN.{ℤ, pos}
-use lib.ListN.{length, getD, set, replicate, getD-replicate}
+use lib.ListN.{length, getD, set, replicate, getD-replicate, length-set}
 use lib.Seq.{ext-getD, getD-set-same, getD-set-other}
 use borrow.Author.Count.{below-more}
 use borrow.Author.Tests.{eq-eqb, le-leb, lt-ltb, le-ltb, leb-true, ltb-true, ltb-false, eqb-true, eqb-false}
@@ -45,6 +45,18 @@ module _ {A : Type 0} (f : ℕ → A) (d : A) where
   pub filled-all : (n : ℕ) (xs : List A) → length xs ≡ n → Filled n xs → xs ≡ tabulate f n
   filled-all n xs e p =
       ext-getD d xs (tabulate f n) (e ∙ sym (length-tabulate n)) (λ k l. p k (omega arith) ∙ sym (at-tabulate n k (omega arith)))
+
+-- ---- a list of n numbers that a loop fills, f 0 first
+module _ (f : ℕ → ℤ) (n : ℕ) where
+  -- the first i are there
+  abbrev pub Filling : ℕ → List ℤ → Type 0
+  Filling i xs = (i ≤ n) × (length xs ≡ n) × Filled f (pos 0) i xs
+
+  pub filling-more : (i : ℕ) (xs : List ℤ) (v : ℤ) → i < n → v ≡ f i → Filling i xs → Filling (i + 1) (set xs i v)
+  filling-more i xs v h e p = (omega arith, length-set xs i v ∙ p .1, filled-more f (pos 0) i xs v (omega (arith, p .1)) e (p .2))
+
+  pub filling-all : (i : ℕ) (xs : List ℤ) → n ≤ i → Filling i xs → xs ≡ tabulate f n
+  filling-all i xs h p = filled-all f (pos 0) n xs (p .1) (λ k l. p .2 k (omega arith))
 
 -- the words from place 0 of a list that has no more are the list
 pub part-whole : (n : ℕ) (xs : List ℤ) → length xs ≡ n → part xs 0 n ≡ xs

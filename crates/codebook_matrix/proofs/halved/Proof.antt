@@ -1,21 +1,20 @@
 use Rattle.codebook_matrix.proofs.halved.Statement.{statement}
 use Rattle.codebook_matrix.proofs.halved.Tie as tie
 use borrow.Author.Needs.{needs}
-use Prim.Native.Nat.{ℕ, _≤_, _-_}
-use lib.IntN.{ℤ, pos, negsuc}
-use mathlib.Core.Path.{_∙_, _≡_, refl}
+use Prim.Native.Nat.{ℕ, _-_}
+use lib.IntN.{ℤ, negsuc}
+use mathlib.Core.Path.{_≡_, refl}
 use mir.Val.{ofZ, toZ}
 use native.Mathlib.Omega.{arith}
-use lib.ListN.{length, length-set}
 use mir.Syntax.{w16}
 use Rattle.fixed.proofs.Bounds.{got}
 use Rattle.fixed.specs.Operators.{shl}
 use Rattle.fixed.specs.Lists.{at}
-use Rattle.fixed.proofs.Lists.{Filled, filled-more, filled-all}
+use Rattle.fixed.proofs.Lists.{Filling, filling-more, filling-all}
 use Rattle.codebook_matrix.specs.Matrices.{halved}
 
 abbrev Inv-loop : tie.InvT-loop
-Inv-loop impulse words₀ i₀ words i = (i ≤ 40) × (length words ≡ 40) × Filled (λ k. shl (at impulse k) (negsuc 0)) (pos 0) i words
+Inv-loop impulse words₀ i₀ words i = Filling (λ k. shl (at impulse k) (negsuc 0)) 40 i words
 
 abbrev μ-loop : tie.MeasureT-loop
 μ-loop impulse words₀ i₀ words i = 40 - i
@@ -51,19 +50,15 @@ loop-again c =
     let f : ℕ → ℤ = λ k. shl (at (a .impulse .now) k) (negsuc 0) in
     let i = s .loop .i in
     let v : ℤ = toZ w16 (ofZ w16 (c .shift-word .result)) in
-    let e : v ≡ f i = rw (got w16 (c .shift-word .ok) (c .shift-word .ensures), got w16 (c .before .shift-word-arg .given) refl) in (
-      omega arith,
-      length-set (s .loop .words) i v ∙ s .loop .inv .1,
-      filled-more f (pos 0) i (s .loop .words) v (omega arith) e (s .loop .inv .2),
-    )
+    let e : v ≡ f i = rw (got w16 (c .shift-word .ok) (c .shift-word .ensures), got w16 (c .before .shift-word-arg .given) refl) in
+    filling-more f 40 i (s .loop .words) v (omega arith) e (s .loop .inv)
 
 returns : tie.Need-returns Inv-loop μ-loop
 unfolding halved
 returns c =
     let s = c .before in
     let a = s .before .args in
-    let e : s .loop .i ≡ 40 = omega arith in
-    filled-all (λ k. shl (at (a .impulse .now) k) (negsuc 0)) (pos 0) 40 (s .loop .words) (s .loop .inv .1) (rw e at (s .loop .inv .2))
+    filling-all (λ k. shl (at (a .impulse .now) k) (negsuc 0)) 40 (s .loop .i) (s .loop .words) (omega arith) (s .loop .inv)
 
 pub halved-spec : {M : Type 1} → statement M
 halved-spec =

@@ -1,22 +1,21 @@
 use Rattle.codebook_matrix.proofs.scaled.Statement.{statement}
 use Rattle.codebook_matrix.proofs.scaled.Tie as tie
 use borrow.Author.Needs.{needs}
-use Prim.Native.Nat.{ℕ, _≤_, _-_}
+use Prim.Native.Nat.{ℕ, _-_}
 use lib.IntN.{ℤ, pos}
 use mathlib.Core.Path.{_∙_, _≡_, refl}
 use mir.Val.{ofZ, toZ}
 use mir.Facts.{toZ-ofZ}
 use native.Mathlib.Omega.{arith}
-use lib.ListN.{length, length-set}
 use mir.Syntax.{w16, w32}
 use Rattle.fixed.proofs.Bounds.{got}
 use Rattle.fixed.specs.Operators.{L-mult, L-shl, round}
 use Rattle.fixed.specs.Lists.{at}
-use Rattle.fixed.proofs.Lists.{Filled, filled-more, filled-all}
+use Rattle.fixed.proofs.Lists.{Filling, filling-more, filling-all}
 use Rattle.codebook_matrix.specs.Matrices.{scaled-by}
 
 abbrev Inv-loop : tie.InvT-loop
-Inv-loop impulse gain words₀ i₀ words i = (i ≤ 40) × (length words ≡ 40) × Filled (λ k. round (L-shl (L-mult (at impulse k) (toZ w16 gain)) (pos 9))) (pos 0) i words
+Inv-loop impulse gain words₀ i₀ words i = Filling (λ k. round (L-shl (L-mult (at impulse k) (toZ w16 gain)) (pos 9))) 40 i words
 
 abbrev μ-loop : tie.MeasureT-loop
 μ-loop impulse gain words₀ i₀ words i = 40 - i
@@ -60,11 +59,8 @@ loop-again c =
     let i = s .loop .i in
     let v : ℤ = toZ w16 (ofZ w16 (c .rounded .result)) in
     let x : toZ w16 (ofZ w16 (at (a .impulse .now) i)) ≡ at (a .impulse .now) i = got w16 (c .before .before .before .product-arg .given) refl in
-    let e : v ≡ f i = rw (got w16 (c .rounded .ok) (c .rounded .ensures), got w32 (c .before .shift .ok) (c .before .shift .ensures), got w32 (c .before .before .product .ok) (c .before .before .product .ensures), x) in (
-      omega arith,
-      length-set (s .loop .words) i v ∙ s .loop .inv .1,
-      filled-more f (pos 0) i (s .loop .words) v (omega arith) e (s .loop .inv .2),
-    )
+    let e : v ≡ f i = rw (got w16 (c .rounded .ok) (c .rounded .ensures), got w32 (c .before .shift .ok) (c .before .shift .ensures), got w32 (c .before .before .product .ok) (c .before .before .product .ensures), x) in
+    filling-more f 40 i (s .loop .words) v (omega arith) e (s .loop .inv)
 
 returns : tie.Need-returns Inv-loop μ-loop
 unfolding scaled-by
@@ -72,8 +68,7 @@ returns c =
     let s = c .before in
     let a = s .before .args in
     let g : ℤ = toZ w16 (ofZ w16 (a .gain)) in
-    let e : s .loop .i ≡ 40 = omega arith in
-    filled-all (λ k. round (L-shl (L-mult (at (a .impulse .now) k) g) (pos 9))) (pos 0) 40 (s .loop .words) (s .loop .inv .1) (rw e at (s .loop .inv .2))
+    filling-all (λ k. round (L-shl (L-mult (at (a .impulse .now) k) g) (pos 9))) 40 (s .loop .i) (s .loop .words) (omega arith) (s .loop .inv)
     ∙ rw (toZ-ofZ (s .before .fits .gain))
 
 pub scaled-spec : {M : Type 1} → statement M

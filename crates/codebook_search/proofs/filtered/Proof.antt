@@ -1,19 +1,18 @@
 use Rattle.codebook_search.proofs.filtered.Statement.{statement}
 use Rattle.codebook_search.proofs.filtered.Tie as tie
 use borrow.Author.Needs.{needs}
-use Prim.Native.Nat.{ℕ, _≤_, _-_}
-use lib.IntN.{ℤ, pos}
-use mathlib.Core.Path.{_∙_, _≡_, refl}
+use Prim.Native.Nat.{ℕ, _-_}
+use lib.IntN.{ℤ}
+use mathlib.Core.Path.{refl}
 use mir.Val.{ofZ, toZ}
 use native.Mathlib.Omega.{arith}
-use lib.ListN.{length, length-set}
 use mir.Syntax.{w16}
 use Rattle.fixed.proofs.Bounds.{got}
-use Rattle.fixed.proofs.Lists.{Filled, filled-more, filled-all}
+use Rattle.fixed.proofs.Lists.{Filling, filling-more, filling-all}
 use Rattle.codebook_search.specs.Pulses.{filtered-at, filtered}
 
 abbrev Inv-loop : tie.InvT-loop
-Inv-loop chosen impulse signs words₀ i₀ words i = (i ≤ 40) × (length words ≡ 40) × Filled (filtered-at chosen impulse signs) (pos 0) i words
+Inv-loop chosen impulse signs words₀ i₀ words i = Filling (filtered-at chosen impulse signs) 40 i words
 
 abbrev μ-loop : tie.MeasureT-loop
 μ-loop chosen impulse signs words₀ i₀ words i = 40 - i
@@ -42,19 +41,15 @@ loop-again c =
     let a = s .before .args in
     let f : ℕ → ℤ = filtered-at (a .chosen) (a .impulse .now) (a .signs .now) in
     let i = s .loop .i in
-    let v : ℤ = toZ w16 (ofZ w16 (c .filtered-at .result)) in (
-      omega arith,
-      length-set (s .loop .words) i v ∙ s .loop .inv .1,
-      filled-more f (pos 0) i (s .loop .words) v (omega arith) (got w16 (c .filtered-at .ok) (c .filtered-at .ensures)) (s .loop .inv .2),
-    )
+    let v : ℤ = toZ w16 (ofZ w16 (c .filtered-at .result)) in
+    filling-more f 40 i (s .loop .words) v (omega arith) (got w16 (c .filtered-at .ok) (c .filtered-at .ensures)) (s .loop .inv)
 
 returns : tie.Need-returns Inv-loop μ-loop
 unfolding filtered
 returns c =
     let s = c .before in
     let a = s .before .args in
-    let e : s .loop .i ≡ 40 = omega arith in
-    filled-all (filtered-at (a .chosen) (a .impulse .now) (a .signs .now)) (pos 0) 40 (s .loop .words) (s .loop .inv .1) (rw e at (s .loop .inv .2))
+    filling-all (filtered-at (a .chosen) (a .impulse .now) (a .signs .now)) 40 (s .loop .i) (s .loop .words) (omega arith) (s .loop .inv)
 
 pub filtered-spec : {M : Type 1} → statement M
 filtered-spec =

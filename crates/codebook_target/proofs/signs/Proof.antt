@@ -1,20 +1,19 @@
 use borrow.Author.Needs.{needs}
 use Rattle.codebook_target.proofs.signs.Statement.{statement}
 use Rattle.codebook_target.proofs.signs.Tie as tie
-use Prim.Native.Nat.{ℕ, _≤_, _-_}
-use lib.IntN.{ℤ, pos}
-use mathlib.Core.Path.{_∙_, _≡_, refl}
+use Prim.Native.Nat.{ℕ, _-_}
+use lib.IntN.{ℤ}
+use mathlib.Core.Path.{_≡_, refl}
 use mir.Val.{ofZ, toZ}
 use native.Mathlib.Omega.{arith}
-use lib.ListN.{length, length-set}
 use mir.Syntax.{w16}
 use Rattle.fixed.proofs.Bounds.{got}
 use Rattle.fixed.specs.Lists.{at}
-use Rattle.fixed.proofs.Lists.{Filled, filled-more, filled-all}
+use Rattle.fixed.proofs.Lists.{Filling, filling-more, filling-all}
 use Rattle.codebook_target.specs.Starts.{sign-of, signs-of}
 
 abbrev Inv-loop : tie.InvT-loop
-Inv-loop correlation words₀ i₀ words i = (i ≤ 40) × (length words ≡ 40) × Filled (λ k. sign-of (at correlation k)) (pos 0) i words
+Inv-loop correlation words₀ i₀ words i = Filling (λ k. sign-of (at correlation k)) 40 i words
 
 abbrev μ-loop : tie.MeasureT-loop
 μ-loop correlation words₀ i₀ words i = 40 - i
@@ -49,19 +48,15 @@ loop-again c =
     let a = s .before .args in
     let f : ℕ → ℤ = λ k. sign-of (at (a .correlation .now) k) in
     let v : ℤ = toZ w16 (ofZ w16 (c .sign-of .result)) in
-    let e : v ≡ f (s .loop .i) = rw (got w16 (c .sign-of .ok) (c .sign-of .ensures), got w16 (c .before .sign-of-arg .given) refl) in (
-      omega arith,
-      length-set (s .loop .words) (s .loop .i) v ∙ s .loop .inv .1,
-      filled-more f (pos 0) (s .loop .i) (s .loop .words) v (omega arith) e (s .loop .inv .2),
-    )
+    let e : v ≡ f (s .loop .i) = rw (got w16 (c .sign-of .ok) (c .sign-of .ensures), got w16 (c .before .sign-of-arg .given) refl) in
+    filling-more f 40 (s .loop .i) (s .loop .words) v (omega arith) e (s .loop .inv)
 
 returns : tie.Need-returns Inv-loop μ-loop
 unfolding signs-of
 returns c =
     let s = c .before in
     let a = s .before .args in
-    let e : s .loop .i ≡ 40 = omega arith in
-    filled-all (λ k. sign-of (at (a .correlation .now) k)) (pos 0) 40 (s .loop .words) (s .loop .inv .1) (rw e at (s .loop .inv .2))
+    filling-all (λ k. sign-of (at (a .correlation .now) k)) 40 (s .loop .i) (s .loop .words) (omega arith) (s .loop .inv)
 
 pub signs-spec : {M : Type 1} → statement M
 signs-spec =

@@ -1,21 +1,20 @@
 use Rattle.codebook_target.proofs.target_correlation.Statement.{statement}
 use Rattle.codebook_target.proofs.target_correlation.Tie as tie
 use borrow.Author.Needs.{needs}
-use Prim.Native.Nat.{ℕ, _≤_, _-_}
-use lib.IntN.{ℤ, pos}
+use Prim.Native.Nat.{ℕ, _-_}
+use lib.IntN.{ℤ}
 use mathlib.Core.Path.{_∙_, _≡_, refl}
 use mir.Val.{ofZ, toZ}
 use native.Mathlib.Omega.{arith}
-use lib.ListN.{length, length-set}
 use mir.Syntax.{w16, w32}
 use Rattle.fixed.proofs.Bounds.{got}
 use Rattle.fixed.specs.Operators.{L-shl, round}
 use Rattle.fixed.specs.Lists.{at}
-use Rattle.fixed.proofs.Lists.{Filled, filled-more, filled-all}
+use Rattle.fixed.proofs.Lists.{Filling, filling-more, filling-all}
 use Rattle.codebook_target.specs.Targets.{normalised, cor-h-x}
 
 abbrev Inv-loop : tie.InvT-loop
-Inv-loop target impulse raw shift correlation₀ i₀ correlation i = (i ≤ 40) × (length correlation ≡ 40) × Filled (λ k. round (L-shl (at raw k) (toZ w16 shift))) (pos 0) i correlation
+Inv-loop target impulse raw shift correlation₀ i₀ correlation i = Filling (λ k. round (L-shl (at raw k) (toZ w16 shift))) 40 i correlation
 
 abbrev μ-loop : tie.MeasureT-loop
 μ-loop target impulse raw shift correlation₀ i₀ correlation i = 40 - i
@@ -68,11 +67,8 @@ loop-again c =
     let i = s .loop .i in
     let v : ℤ = toZ w16 (ofZ w16 (c .rounded .result)) in
     let x : toZ w32 (ofZ w32 (at raw i)) ≡ at raw i = got w32 (c .before .before .shift-arg .given) refl in
-    let e : v ≡ f i = rw (got w16 (c .rounded .ok) (c .rounded .ensures), got w32 (c .before .shift .ok) (c .before .shift .ensures), x) in (
-      omega arith,
-      length-set (s .loop .correlation) i v ∙ s .loop .inv .1,
-      filled-more f (pos 0) i (s .loop .correlation) v (omega arith) e (s .loop .inv .2),
-    )
+    let e : v ≡ f i = rw (got w16 (c .rounded .ok) (c .rounded .ensures), got w32 (c .before .shift .ok) (c .before .shift .ensures), x) in
+    filling-more f 40 i (s .loop .correlation) v (omega arith) e (s .loop .inv)
 
 returns : tie.Need-returns Inv-loop μ-loop
 unfolding normalised cor-h-x
@@ -82,8 +78,7 @@ returns c =
     let r = b .before .before .before .before in
     let raw = r .raw-correlations .result in
     let n : ℤ = toZ w16 (ofZ w16 (b .sub16 .result)) in
-    let e : s .loop .i ≡ 40 = omega arith in
-    filled-all (λ k. round (L-shl (at raw k) n)) (pos 0) 40 (s .loop .correlation) (s .loop .inv .1) (rw e at (s .loop .inv .2))
+    filling-all (λ k. round (L-shl (at raw k) n)) 40 (s .loop .i) (s .loop .correlation) (omega arith) (s .loop .inv)
     ∙ rw (got w16 (b .sub16 .ok) (b .sub16 .ensures), got w16 (b .before .normalize .ok) (b .before .normalize .ensures), got w32 (b .before .before .total .ok) (b .before .before .total .ensures), r .raw-correlations .ensures)
 
 pub target-correlation-spec : {M : Type 1} → statement M

@@ -1,19 +1,18 @@
-use mathlib.Core.Path.{_≡_, refl, _∙_}
-use Prim.Native.Nat.{ℕ, _≤_, _-_, _+_}
-use lib.IntN.{ℤ, pos}
-use lib.ListN.{length, length-set}
+use mathlib.Core.Path.{refl}
+use Prim.Native.Nat.{ℕ, _-_, _+_}
+use lib.IntN.{ℤ}
 use mir.Syntax.{w16}
 use mir.Val.{toZ, ofZ}
 use Rattle.fixed.proofs.Bounds.{got}
 use Rattle.fixed.specs.Lists.{at, part}
-use Rattle.fixed.proofs.Lists.{Filled, filled-more, filled-all}
+use Rattle.fixed.proofs.Lists.{Filling, filling-more, filling-all}
 use borrow.Author.Needs.{needs}
 use native.Mathlib.Omega.{arith}
 use Rattle.encoder_filtering.proofs.put_out.Statement.{statement}
 use Rattle.encoder_filtering.proofs.put_out.Tie as tie
 
 abbrev Inv-loop : tie.InvT-loop
-Inv-loop samples words₀ i₀ words i = (i ≤ 40) × (length words ≡ 40) × Filled (λ k. at samples (10 + k)) (pos 0) i words
+Inv-loop samples words₀ i₀ words i = Filling (λ k. at samples (10 + k)) 40 i words
 
 abbrev μ-loop : tie.MeasureT-loop
 μ-loop samples words₀ i₀ words i = 40 - i
@@ -46,18 +45,14 @@ loop-again : tie.Need-loop-again Inv-loop μ-loop
 loop-again c =
     let s = c .before .before in
     let f : ℕ → ℤ = λ k. at (s .before .args .samples .now) (10 + k) in
-    let v : ℤ = toZ w16 (ofZ w16 (f (s .loop .i))) in (
-      omega arith,
-      length-set (s .loop .words) (s .loop .i) v ∙ s .loop .inv .1,
-      filled-more f (pos 0) (s .loop .i) (s .loop .words) v (omega arith) (got w16 (c .words .given) refl) (s .loop .inv .2),
-    )
+    let v : ℤ = toZ w16 (ofZ w16 (f (s .loop .i))) in
+    filling-more f 40 (s .loop .i) (s .loop .words) v (omega arith) (got w16 (c .words .given) refl) (s .loop .inv)
 
 returns : tie.Need-returns Inv-loop μ-loop
 unfolding part
 returns c =
     let s = c .before in
-    let e : s .loop .i ≡ 40 = omega arith in
-    filled-all (λ k. at (s .before .args .samples .now) (10 + k)) (pos 0) 40 (s .loop .words) (s .loop .inv .1) (rw e at (s .loop .inv .2))
+    filling-all (λ k. at (s .before .args .samples .now) (10 + k)) 40 (s .loop .i) (s .loop .words) (omega arith) (s .loop .inv)
 
 pub put-out-spec : {M : Type 1} → statement M
 put-out-spec =

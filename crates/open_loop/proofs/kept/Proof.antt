@@ -1,19 +1,18 @@
-use mathlib.Core.Path.{_≡_, refl, _∙_}
-use Prim.Native.Nat.{ℕ, _≤_, _-_, _+_}
-use lib.IntN.{ℤ, pos}
-use lib.ListN.{length, length-set}
+use mathlib.Core.Path.{refl}
+use Prim.Native.Nat.{ℕ, _-_, _+_}
+use lib.IntN.{ℤ}
 use mir.Syntax.{w16}
 use mir.Val.{toZ, ofZ}
 use Rattle.fixed.proofs.Bounds.{got}
 use Rattle.fixed.specs.Lists.{at, part}
-use Rattle.fixed.proofs.Lists.{Filled, filled-more, filled-all}
+use Rattle.fixed.proofs.Lists.{Filling, filling-more, filling-all}
 use borrow.Author.Needs.{needs}
 use native.Mathlib.Omega.{arith}
 use Rattle.open_loop.proofs.kept.Statement.{statement}
 use Rattle.open_loop.proofs.kept.Tie as tie
 
 abbrev Inv-loop : tie.InvT-loop
-Inv-loop input history₀ i₀ history i = (i ≤ 143) × (length history ≡ 143) × Filled (λ k. at input (80 + k)) (pos 0) i history
+Inv-loop input history₀ i₀ history i = Filling (λ k. at input (80 + k)) 143 i history
 
 abbrev μ-loop : tie.MeasureT-loop
 μ-loop input history₀ i₀ history i = 143 - i
@@ -47,19 +46,15 @@ loop-again c =
     let s = c .before .before in
     let a = s .before .args in
     let f : ℕ → ℤ = λ k. at (a .input .now) (80 + k) in
-    let v : ℤ = toZ w16 (ofZ w16 (f (s .loop .i))) in (
-      omega arith,
-      length-set (s .loop .history) (s .loop .i) v ∙ s .loop .inv .1,
-      filled-more f (pos 0) (s .loop .i) (s .loop .history) v (omega arith) (got w16 (c .history .given) refl) (s .loop .inv .2),
-    )
+    let v : ℤ = toZ w16 (ofZ w16 (f (s .loop .i))) in
+    filling-more f 143 (s .loop .i) (s .loop .history) v (omega arith) (got w16 (c .history .given) refl) (s .loop .inv)
 
 returns : tie.Need-returns Inv-loop μ-loop
 unfolding part
 returns c =
     let s = c .before in
     let a = s .before .args in
-    let e : s .loop .i ≡ 143 = omega arith in
-    filled-all (λ k. at (a .input .now) (80 + k)) (pos 0) 143 (s .loop .history) (s .loop .inv .1) (rw e at (s .loop .inv .2))
+    filling-all (λ k. at (a .input .now) (80 + k)) 143 (s .loop .i) (s .loop .history) (omega arith) (s .loop .inv)
 
 pub kept-spec : {M : Type 1} → statement M
 kept-spec =

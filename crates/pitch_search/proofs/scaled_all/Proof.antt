@@ -1,20 +1,19 @@
-use Prim.Native.Nat.{ℕ, _≤_, _-_}
-use lib.IntN.{ℤ, pos}
-use mathlib.Core.Path.{_∙_, _≡_, refl}
+use Prim.Native.Nat.{ℕ, _-_}
+use lib.IntN.{ℤ}
+use mathlib.Core.Path.{_≡_, refl}
 use mir.Val.{ofZ, toZ}
 use native.Mathlib.Omega.{arith}
 use borrow.Author.Needs.{needs}
-use lib.ListN.{length, length-set}
 use mir.Syntax.{w16}
 use Rattle.fixed.proofs.Bounds.{got}
 use Rattle.fixed.specs.Lists.{at}
-use Rattle.fixed.proofs.Lists.{Filled, filled-more, filled-all}
+use Rattle.fixed.proofs.Lists.{Filling, filling-more, filling-all}
 use Rattle.pitch_search.specs.Correlations.{scaled, scaled-all}
 use Rattle.pitch_search.proofs.scaled_all.Statement.{statement}
 use Rattle.pitch_search.proofs.scaled_all.Tie as tie
 
 abbrev Inv-loop : tie.InvT-loop
-Inv-loop convolved loud filtered₀ i₀ filtered i = (i ≤ 40) × (length filtered ≡ 40) × Filled (λ k. scaled loud (at convolved k)) (pos 0) i filtered
+Inv-loop convolved loud filtered₀ i₀ filtered i = Filling (λ k. scaled loud (at convolved k)) 40 i filtered
 
 abbrev μ-loop : tie.MeasureT-loop
 μ-loop convolved loud filtered₀ i₀ filtered i = 40 - i
@@ -49,19 +48,15 @@ loop-again c =
     let a = s .before .args in
     let f : ℕ → ℤ = λ k. scaled (a .loud) (at (a .convolved .now) k) in
     let v : ℤ = toZ w16 (ofZ w16 (c .scaled .result)) in
-    let e : v ≡ f (s .loop .i) = rw (got w16 (c .scaled .ok) (c .scaled .ensures), got w16 (c .before .scaled-arg .given) refl) in (
-      omega arith,
-      length-set (s .loop .filtered) (s .loop .i) v ∙ s .loop .inv .1,
-      filled-more f (pos 0) (s .loop .i) (s .loop .filtered) v (omega arith) e (s .loop .inv .2),
-    )
+    let e : v ≡ f (s .loop .i) = rw (got w16 (c .scaled .ok) (c .scaled .ensures), got w16 (c .before .scaled-arg .given) refl) in
+    filling-more f 40 (s .loop .i) (s .loop .filtered) v (omega arith) e (s .loop .inv)
 
 returns : tie.Need-returns Inv-loop μ-loop
 unfolding scaled-all
 returns c =
     let s = c .before in
     let a = s .before .args in
-    let e : s .loop .i ≡ 40 = omega arith in
-    filled-all (λ k. scaled (a .loud) (at (a .convolved .now) k)) (pos 0) 40 (s .loop .filtered) (s .loop .inv .1) (rw e at (s .loop .inv .2))
+    filling-all (λ k. scaled (a .loud) (at (a .convolved .now) k)) 40 (s .loop .i) (s .loop .filtered) (omega arith) (s .loop .inv)
 
 pub scaled-all-spec : {M : Type 1} → statement M
 scaled-all-spec =
