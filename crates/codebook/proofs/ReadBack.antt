@@ -10,7 +10,7 @@ use lib.ListN.{length, getD, length-set}
 use Rattle.fixed.proofs.Bounds.{either}
 use Rattle.fixed.proofs.Clips.{contradiction}
 use Rattle.fixed.proofs.Tables.{both, both-left, both-right, at}
-use borrow.Author.Tests.{leb-true}
+use borrow.Author.Tests.{eq-eqb, leb-true}
 use Rattle.refusal.specs.Refused.{accepts}
 use Rattle.refusal.specs.Checks.{Outcome}
 use Rattle.codebook.specs.declared.Places.{Places}
@@ -160,19 +160,21 @@ module _ (a b c d : Bool) (p q r s : ℕ) (hp : slot p ≡ 0) (hq : slot q ≡ 1
       let e3 : bit d % 2 ≡ bit d = omega arith in
       rw (bits, w1, w2, w3) (bit-back a _ e0, bit-back b _ e1, bit-back c _ e2, bit-back d _ e3)
 
--- ---- 40 samples come out of any two words
-pub decode-length : (positions signs : ℕ) → length (decode positions signs .after) ≡ 40
+-- ---- the reader
+-- it leaves a list of 40 words
+pub decode-length : (positions signs : ℕ) (out : List ℤ) → length out ≡ 40 → length (decode positions signs out .after) ≡ 40
 unfolding decode
-decode-length positions signs =
-    either (λ (o : Outcome Places (List ℤ)). length (o .after) ≡ 40) (leb positions 8191) _ _
-    (either (λ (o : Outcome Places (List ℤ)). length (o .after) ≡ 40) (leb signs 15) _ _ (rw (length-set, length-set, length-set, length-set) refl) refl) refl
+decode-length positions signs out e =
+    either (λ (o : Outcome Places (List ℤ)). length (o .after) ≡ 40) (eqb (length out) 40) _ _
+    (either (λ (o : Outcome Places (List ℤ)). length (o .after) ≡ 40) (leb positions 8191) _ _
+    (either (λ (o : Outcome Places (List ℤ)). length (o .after) ≡ 40) (leb signs 15) _ _ (rw (length-set, length-set, length-set, length-set) refl) e) e) e
 
--- what the reader accepts is in its limits
-pub accepted-fits : (positions signs : ℕ) → accepts (decode positions signs .answer) ≡ true → (positions ≤ 8191) × (signs ≤ 15)
+-- and what it accepts is in its limits
+pub accepted-fits : (positions signs : ℕ) (out : List ℤ) → length out ≡ 40 → accepts (decode positions signs out .answer) ≡ true → (positions ≤ 8191) × (signs ≤ 15)
 unfolding decode
-accepted-fits positions signs = go (leb positions 8191) refl (leb signs 15) refl
+accepted-fits positions signs out l = go (leb positions 8191) refl (leb signs 15) refl
   where
-    go : (a : Bool) → leb positions 8191 ≡ a → (b : Bool) → leb signs 15 ≡ b → accepts (decode positions signs .answer) ≡ true → (positions ≤ 8191) × (signs ≤ 15)
+    go : (a : Bool) → leb positions 8191 ≡ a → (b : Bool) → leb signs 15 ≡ b → accepts (decode positions signs out .answer) ≡ true → (positions ≤ 8191) × (signs ≤ 15)
     go true p true q e = (leb-true positions 8191 p, leb-true signs 15 q)
-    go true p false q e = contradiction (rw (p, q) at e)
-    go false p b q e = contradiction (rw p at e)
+    go true p false q e = contradiction (rw (eq-eqb (length out) 40 l, p, q) at e)
+    go false p b q e = contradiction (rw (eq-eqb (length out) 40 l, p) at e)

@@ -6,7 +6,7 @@ use lib.Dec.{eqb}
 use lib.IntN.{ℤ, pos, negsuc}
 use lib.ListN.{getD, set, replicate}
 use Rattle.refusal.specs.Refused.{Told, values, turned-down}
-use Rattle.refusal.specs.Checks.{Outcome, unless-refused, position-word, sign-word}
+use Rattle.refusal.specs.Checks.{Outcome, unless-refused, length-is, position-word, sign-word}
 use Rattle.codebook.specs.declared.Places.{Places}
 use Rattle.codebook.specs.declared.PulseReading.{PulseReading}
 use Rattle.codebook.specs.declared.PulseReading.the-variants.{Places as ReadPlaces, Refused}
@@ -42,8 +42,8 @@ abbrev pub told-places : PulseReading → Told Places
 told-places (ReadPlaces p) = values p
 told-places (Refused r) = turned-down r
 
--- decode_4i40_17bits behind 01's checks: the answer, and the samples, all 0 where the words are refused
-unfoldable pub decode : ℕ → ℕ → Outcome Places (List ℤ)
-decode positions signs =
-    unless-refused (position-word positions ∷ sign-word signs ∷ []) (replicate 40 (pos 0))
+-- decode_4i40_17bits behind 01's checks: the answer, and the lent list after it
+unfoldable pub decode : ℕ → ℕ → List ℤ → Outcome Places (List ℤ)
+decode positions signs out =
+    unless-refused (length-is 40 out ∷ position-word positions ∷ sign-word signs ∷ []) out
     (record { answer = values (places-of positions); after = pulses-at (places-of positions) signs })

@@ -2,8 +2,11 @@
 use refusal::Refusal;
 ghost use mathlib.Core.Path.{_≡_};
 ghost use Prim.Native.Nat.{_<_};
+ghost use lib.ListN.{length};
 ghost use Rattle.codebook.specs.Gray.{dgray};
 ghost use Rattle.codebook.specs.Readers.{place-of, pulse-of, places-of, pulses-at, told-places, decode};
+
+const SUBFRAME_SAMPLES: usize = 40;
 
 const TRACKS: usize = 5;
 
@@ -11,7 +14,7 @@ const MAX_POSITIONS: u16 = 8191;
 
 const MAX_SIGNS: u16 = 15;
 
-const INVERSE_GRAY: [usize; 8] = [0, 1, 3, 2, 5, 6, 4, 7];
+const INVERSE_GRAY: [u8; 8] = [0, 1, 3, 2, 5, 6, 4, 7];
 
 const POSITIVE_Q13: i16 = 8191;
 
@@ -30,49 +33,40 @@ pub enum PulseReading {
     Refused(Refusal),
 }
 
-// What was read, and the samples: all 0 beside a refusal.
-pub struct Codebook {
-    pub reading: PulseReading,
-    pub samples_q13: [i16; 40],
-}
-
-pub fn read(pulse_positions: u16, pulse_signs: u16) -> Codebook
-    ensures { λ r. ⌜ (told-places (r .reading) ≡ decode «pulse_positions» «pulse_signs» .answer)
-        × (r .«samples_q13» ≡ decode «pulse_positions» «pulse_signs» .after) ⌝ }
+// The samples are lent by the caller.
+pub fn read(pulse_positions: u16, pulse_signs: u16, samples_q13: &mut [i16]) -> PulseReading
+    ensures { λ r. ⌜ (told-places r ≡ decode «pulse_positions» «pulse_signs» (now («samples_q13» .entry)) .answer)
+        × (now («samples_q13» .exit) ≡ decode «pulse_positions» «pulse_signs» (now («samples_q13» .entry)) .after) ⌝ }
 {
+    if samples_q13.len() != SUBFRAME_SAMPLES {
+        return PulseReading::Refused(Refusal::Length(samples_q13.len()));
+    }
     if MAX_POSITIONS < pulse_positions {
-        return Codebook {
-            reading: PulseReading::Refused(Refusal::Positions(pulse_positions)),
-            samples_q13: [0; 40],
-        };
+        return PulseReading::Refused(Refusal::Positions(pulse_positions));
     }
     if MAX_SIGNS < pulse_signs {
-        return Codebook {
-            reading: PulseReading::Refused(Refusal::Signs(pulse_signs)),
-            samples_q13: [0; 40],
-        };
+        return PulseReading::Refused(Refusal::Signs(pulse_signs));
     }
     let places = places_in(pulse_positions);
-    Codebook {
-        reading: PulseReading::Places(places),
-        samples_q13: samples_at(places, pulse_signs),
-    }
+    write(places, pulse_signs, samples_q13);
+    PulseReading::Places(places)
 }
 
-fn samples_at(places: Places, signs: u16) -> [i16; 40]
-    requires { ⌜ (places .first < 40) × (places .second < 40) × (places .third < 40) × (places .last < 40) ⌝ }
-    ensures { λ r. ⌜ r ≡ pulses-at places signs ⌝ }
+fn write(places: Places, signs: u16, samples: &mut [i16])
+    requires { ⌜ (length (now samples) ≡ 40) × (places .first < 40) × (places .second < 40) × (places .third < 40) × (places .last < 40) ⌝ }
+    ensures { λ r. ⌜ now (samples .exit) ≡ pulses-at places signs ⌝ }
 {
+    for i in 0..SUBFRAME_SAMPLES {
+        samples[i] = 0;
+    }
     let first = places.first;
     let second = places.second;
     let third = places.third;
     let last = places.last;
-    let mut samples = [0i16; 40];
     samples[first] = pulse(signs);
     samples[second] = pulse(signs / 2);
     samples[third] = pulse(signs / 4);
     samples[last] = pulse(signs / 8);
-    samples
 }
 
 fn places_in(positions: u16) -> Places
@@ -89,11 +83,11 @@ fn places_in(positions: u16) -> Places
 }
 
 // The place in a track whose Gray number the lowest three bits are.
-fn place(bits: u16, track: usize, table: &[usize; 8]) -> usize
+fn place(bits: u16, track: usize, table: &[u8; 8]) -> usize
     requires { ⌜ (now table ≡ dgray) × (track < 5) ⌝ }
     ensures { λ r. ⌜ r ≡ place-of bits track ⌝ }
 {
-    table[(bits % 8) as usize] * TRACKS + track
+    table[(bits % 8) as usize] as usize * TRACKS + track
 }
 
 // The pulse whose sign the lowest bit is: set means positive.

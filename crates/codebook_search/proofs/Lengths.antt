@@ -1,5 +1,5 @@
 -- The three lists that a search hands back have 40 words.
-use mathlib.Core.Path.{_≡_, _∙_}
+use mathlib.Core.Path.{_≡_, refl, _∙_}
 use mathlib.Core.List.{List}
 use Prim.Native.Nat.{ℕ}
 use lib.IntN.{ℤ, pos}
@@ -13,7 +13,7 @@ use Rattle.codebook_search.specs.Pulses.{filtered, build-code, of-correl
 module _ (xs hs : List ℤ) (lag : ℕ) (gain : SharpeningGain) where
   pub innovation-length : length (code-4i40-17bits xs hs lag gain .«innovation_q13») ≡ 40
   unfolding code-4i40-17bits of-impulse of-correlation build-code
-  innovation-length = sharpened-length _ _ _ ∙ decode-length _ _
+  innovation-length = sharpened-length _ _ _ ∙ decode-length _ _ _ refl
 
   pub filtered-length : length (code-4i40-17bits xs hs lag gain .«filtered_q12») ≡ 40
   unfolding code-4i40-17bits of-impulse of-correlation build-code filtered

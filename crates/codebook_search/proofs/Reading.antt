@@ -4,8 +4,9 @@ use mathlib.Core.List.{List}
 use mathlib.Core.Logic.{⊎-elim}
 use Prim.Native.Nat.{ℕ, _+_, _%_, _≤_, _<_}
 use native.Mathlib.Omega.{arith}
-use borrow.Author.Tests.{le-leb}
+use borrow.Author.Tests.{eq-eqb, le-leb}
 use lib.IntN.{ℤ, pos}
+use lib.ListN.{length, replicate}
 use lib.Signed.{ltZ}
 use Rattle.fixed.specs.Lists.{at}
 use Rattle.refusal.specs.Refused.{values, accepts}
@@ -33,7 +34,7 @@ abbrev bit-of : List ℤ → ℕ → ℕ
 bit-of signs p = sign-bit (ltZ (pos 0) (at signs p)) p
 
 -- places in tracks 0, 1, 2 and in 3 or 4, in this order
-module _ (signs : List ℤ) (p q r s : ℕ) (hp : Of-track 0 p) (hq : Of-track 1 q) (hr : Of-track 2 r) (hs : s < 40) (ts : 3 ≤ s % 5) where
+module _ (signs out : List ℤ) (lo : length out ≡ 40) (p q r s : ℕ) (hp : Of-track 0 p) (hq : Of-track 1 q) (hr : Of-track 2 r) (hs : s < 40) (ts : 3 ≤ s % 5) where
   slot-p : slot p ≡ 0
   slot-p = omega (arith, hp .0)
 
@@ -46,20 +47,20 @@ module _ (signs : List ℤ) (p q r s : ℕ) (hp : Of-track 0 p) (hq : Of-track 1
   slot-s : slot s ≡ 3
   slot-s = omega (arith, ts)
 
-  in-turn : decode (position-bits p + position-bits q + position-bits r + position-bits s) (bit-of signs p + bit-of signs q + bit-of signs r + bit-of signs s)
+  in-turn : decode (position-bits p + position-bits q + position-bits r + position-bits s) (bit-of signs p + bit-of signs q + bit-of signs r + bit-of signs s) out
       ≡ Read signs (record { first = p; second = q; third = r; last = s })
   unfolding decode
   in-turn =
       let b = signs-back (ltZ (pos 0) (at signs p)) (ltZ (pos 0) (at signs q)) (ltZ (pos 0) (at signs r)) (ltZ (pos 0) (at signs s)) p q r s slot-p slot-q slot-r slot-s in
       let f = signs-fit (ltZ (pos 0) (at signs p)) (ltZ (pos 0) (at signs q)) (ltZ (pos 0) (at signs r)) (ltZ (pos 0) (at signs s)) p q r s slot-p slot-q slot-r slot-s in
       let e = positions-back p q r s (hp .1) (hq .1) (hr .1) hs (hp .0) (hq .0) (hr .0) ts in
-      rw (le-leb _ 8191 (positions-fit p q r s (hp .1) (hq .1) (hr .1) hs (hp .0) (hq .0) (hr .0) ts), le-leb _ 15 f, ap (λ (x : Places). x .first) e, ap (λ (x : Places). x .second) e, ap (λ (x : Places). x .third) e, ap (λ (x : Places). x .last) e, b .0, b .1, b .2, b .3)
+      rw (eq-eqb (length out) 40 lo, le-leb _ 8191 (positions-fit p q r s (hp .1) (hq .1) (hr .1) hs (hp .0) (hq .0) (hr .0) ts), le-leb _ 15 f, ap (λ (x : Places). x .first) e, ap (λ (x : Places). x .second) e, ap (λ (x : Places). x .third) e, ap (λ (x : Places). x .last) e, b .0, b .1, b .2, b .3)
 
 -- the pulses of a trial, in whatever order they were chosen
-module _ (t : Trial) (signs : List ℤ) where
+module _ (t : Trial) (signs out : List ℤ) (lo : length out ≡ 40) where
   -- what a decoder reads of the two words
   abbrev Back : Type 0
-  Back = decode (positions-of t) (signs-of t signs) ≡ Read signs (by-track t)
+  Back = decode (positions-of t) (signs-of t signs) out ≡ Read signs (by-track t)
 
   -- the four by their tracks
   sorted : (p q r s : ℕ) → Of-track 0 p → Of-track 1 q → Of-track 2 r → s < 40 → 3 ≤ s % 5 →
@@ -67,9 +68,9 @@ module _ (t : Trial) (signs : List ℤ) where
       signs-of t signs ≡ bit-of signs p + bit-of signs q + bit-of signs r + bit-of signs s →
       by-track t ≡ record { first = p; second = q; third = r; last = s } → Back
   sorted p q r s hp hq hr hs ts x y e =
-      ap (λ (w : ℕ). decode w (signs-of t signs)) x
-      ∙ ap (decode (position-bits p + position-bits q + position-bits r + position-bits s)) y
-      ∙ in-turn signs p q r s hp hq hr hs ts
+      ap (λ (w : ℕ). decode w (signs-of t signs) out) x
+      ∙ ap (λ (w : ℕ). decode (position-bits p + position-bits q + position-bits r + position-bits s) w out) y
+      ∙ in-turn signs out lo p q r s hp hq hr hs ts
       ∙ ap (Read signs) (sym e)
 
   module _ (l : ℕ) (h : 3 ≤ l) where
@@ -111,7 +112,7 @@ module _ (t : Trial) (signs : List ℤ) where
   pub spread-back : Spread t → Back
   spread-back s = ⊎-elim (rotated 3 (omega arith)) (rotated 4 (omega arith)) s
 
--- of every search: the reader reads its four places with their signs
+-- of every search, with any list lent: the reader reads its four places with their signs
 module _ (xs hs : List ℤ) (lag : ℕ) (gain : SharpeningGain) where
   -- the sharpened impulse, and the target's correlation with it
   abbrev impulse : List ℤ
@@ -123,12 +124,12 @@ module _ (xs hs : List ℤ) (lag : ℕ) (gain : SharpeningGain) where
   abbrev found : PulseWords
   found = code-4i40-17bits xs hs lag gain .words
 
-  pub reads-back : decode (found .positions) (found .signs) ≡ Read (set-signs correlation) (by-track (chosen impulse correlation))
+  pub reads-back : (out : List ℤ) → length out ≡ 40 → decode (found .positions) (found .signs) out ≡ Read (set-signs correlation) (by-track (chosen impulse correlation))
   unfolding code-4i40-17bits of-impulse of-correlation build-code chosen
-  reads-back =
-      spread-back (chosen impulse correlation) (set-signs correlation)
+  reads-back out l =
+      spread-back (chosen impulse correlation) (set-signs correlation) out l
       (search-spread (magnitudes-of correlation) (cor-h impulse (set-signs correlation)) (set-sign (magnitudes-of correlation)))
 
   -- and so they are at most 8191 and 15
   pub words-fit : (found .positions ≤ 8191) × (found .signs ≤ 15)
-  words-fit = accepted-fits (found .positions) (found .signs) (ap (λ (o : Outcome Places (List ℤ)). accepts (o .answer)) reads-back)
+  words-fit = accepted-fits (found .positions) (found .signs) (replicate 40 (pos 0)) refl (ap (λ (o : Outcome Places (List ℤ)). accepts (o .answer)) (reads-back (replicate 40 (pos 0)) refl))

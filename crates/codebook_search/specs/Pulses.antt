@@ -69,7 +69,7 @@ unfoldable pub build-code : Trial → List ℤ → List ℤ → ℕ → ℤ → 
 build-code t hs signs lag sharp =
     record {
       words = record { positions = positions-of t; signs = signs-of t signs };
-      «innovation_q13» = sharpened (decode (positions-of t) (signs-of t signs) .after) lag sharp;
+      «innovation_q13» = sharpened (decode (positions-of t) (signs-of t signs) (replicate 40 (pos 0)) .after) lag sharp;
       «filtered_q12» = filtered t hs signs;
       «sharpened_impulse_q12» = hs;
     }

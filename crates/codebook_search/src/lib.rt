@@ -430,8 +430,8 @@ fn written(
 {
     let positions = positions_of(chosen);
     let sign_bits = signs_of(chosen, signs);
-    let codebook = codebook::read(positions, sign_bits);
-    let samples = codebook.samples_q13;
+    let mut samples = [0i16; 40];
+    codebook::read(positions, sign_bits, &mut samples);
     SearchResult {
         words: PulseWords {
             positions,

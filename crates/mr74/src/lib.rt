@@ -20,16 +20,16 @@ ghost use mathlib.Core.Path.{_≡_};
 ghost use lib.ListN.{length};
 ghost use Rattle.logarithm.specs.Logarithms.{Log2};
 ghost use Rattle.logarithm.specs.Powers.{Pow2};
-ghost use Rattle.refusal.specs.Refused.{refused, number, detail, turned-down, accepts};
+ghost use Rattle.refusal.specs.Refused.{refused, number, detail, turned-down};
 ghost use Rattle.encoder_filtering.specs.Subframes.{told, lists, residual, prepare};
 ghost use Rattle.pitch.specs.Kinds.{told-lag};
 ghost use Rattle.pitch.specs.Readers.{read};
 ghost use Rattle.pitch_search.specs.Filters.{convolve};
 ghost use Rattle.pitch_search.specs.Searches.{Pitch-fr};
-ghost use Rattle.codebook.specs.Readers.{told-places};
+ghost use Rattle.codebook.specs.Readers.{told-places, decode};
 ghost use Rattle.codebook_search.specs.Pulses.{told-words, lent, pulses};
 ghost use Rattle.mr74.specs.Crossing.{power-answer};
-ghost use Rattle.mr74.specs.Codebooks.{pulses-answer, places-answer, read-pulses};
+ghost use Rattle.mr74.specs.Codebooks.{pulses-answer, places-answer};
 ghost use Rattle.mr74.specs.OpenLoops.{lag-answer, open-loop};
 ghost use Rattle.mr74.specs.Pitches.{fraction-of, subframe-of, lag-of-state, searcher-of, reader-of, fresh-state, accepted-pitch, refused-pitch, pitch-answer, reading-answer, length-answer};
 
@@ -445,30 +445,11 @@ pub extern "C" fn mr74_read_pulses(
     signs: u16,
     samples_q13: &mut [i16],
 ) -> PlacesAnswer
-    ensures { λ r. ⌜ (r ≡ places-answer (read-pulses positions signs (now («samples_q13» .entry)) .answer))
-        × (now («samples_q13» .exit) ≡ read-pulses positions signs (now («samples_q13» .entry)) .after) ⌝ }
+    ensures { λ r. ⌜ (r ≡ places-answer (decode positions signs (now («samples_q13» .entry)) .answer))
+        × (now («samples_q13» .exit) ≡ decode positions signs (now («samples_q13» .entry)) .after) ⌝ }
 {
-    if samples_q13.len() != 40 {
-        return places_answer(PulseReading::Refused(Refusal::Length(samples_q13.len())));
-    }
-    let codebook = codebook::read(positions, signs);
-    let reading = codebook.reading;
-    if is_read(reading) {
-        let samples = codebook.samples_q13;
-        let words: &[i16] = &samples;
-        fixed::copy(words, samples_q13);
-        return places_answer(reading);
-    }
+    let reading = codebook::read(positions, signs, samples_q13);
     places_answer(reading)
-}
-
-fn is_read(reading: PulseReading) -> bool
-    ensures { λ r. ⌜ r ≡ accepts (told-places reading) ⌝ }
-{
-    match reading {
-        PulseReading::Places(_) => true,
-        PulseReading::Refused(_) => false,
-    }
 }
 
 fn places_answer(reading: PulseReading) -> PlacesAnswer

@@ -43,9 +43,12 @@ fn reading() -> bool {
     if got < 4 {
         return false;
     }
-    let codebook = codebook::read(unsigned(bytes[0], bytes[1]), unsigned(bytes[2], bytes[3]));
-    let samples = codebook.samples_q13;
-    let read = codebook.reading;
+    let mut samples = [0i16; 40];
+    let read = codebook::read(
+        unsigned(bytes[0], bytes[1]),
+        unsigned(bytes[2], bytes[3]),
+        &mut samples,
+    );
     match read {
         PulseReading::Places(places) => {
             print_places(places);

@@ -12,14 +12,14 @@ small c = rw (c .before .pre .0) (dgray-lt (c .before .args .bits % 8) (omega ar
 cast-result : tie.Need-cast-result
 cast-result c = search needs
 
-mul-result : tie.Need-mul-result
-mul-result c = search needs
-
 element-copy-out-result : tie.Need-element-copy-out-result
 element-copy-out-result c = search needs
 
-mul-result-2 : tie.Need-mul-result-2
-mul-result-2 c = omega (arith, small c)
+cast-result-2 : tie.Need-cast-result-2
+cast-result-2 c = omega (arith, small c)
+
+mul-result : tie.Need-mul-result
+mul-result c = omega (arith, small c)
 
 add-result : tie.Need-add-result
 add-result c = omega (arith, small c, c .before .pre .1)
@@ -30,4 +30,4 @@ returns c = rw (c .before .pre .0)
 pub place-spec : {M : Type 1} → statement M
 place-spec =
     tie.close
-    (tie.spec cast-result mul-result element-copy-out-result mul-result-2 add-result returns)
+    (tie.spec cast-result element-copy-out-result cast-result-2 mul-result add-result returns)

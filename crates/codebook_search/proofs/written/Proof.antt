@@ -10,6 +10,9 @@ positions-of-requires c κs = search needs
 signs-of-requires : tie.Need-signs-of-requires
 signs-of-requires c κs = search needs
 
+slice-aggregate-read : tie.Need-slice-aggregate-read
+slice-aggregate-read c = search needs
+
 read-requires : tie.Need-read-requires
 read-requires c κs = search needs
 
@@ -25,7 +28,7 @@ returns c =
     let f = c .before in
     let h = f .before in
     let r = h .before .before .before in
-    let g = r .before in
+    let g = r .before .before in
     let p = g .before in
     rw (f .filtered .ensures, h .sharpened .ensures, r .read .ensures .1, g .signs-of .ensures, p .positions-of .ensures, toZ-ofZ (p .before .fits .sharp-q15))
 
@@ -35,6 +38,7 @@ written-spec =
     (tie.spec
     positions-of-requires
     signs-of-requires
+    slice-aggregate-read
     read-requires
     sharpened-requires
     filtered-requires
