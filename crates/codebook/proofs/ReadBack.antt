@@ -19,29 +19,44 @@ use Rattle.codebook.specs.Words.{number-of, in-track, position-bits, slo
 use Rattle.codebook.specs.Readers.{place-of, places-of, pulse-of, decode}
 
 -- ---- the two tables undo each other, by one test over the whole of them
-inverse : ℕ → ℕ → Bool
-inverse k x = both (both (ltb x 8) (ltb (getD dgray k 0) 8)) (both (eqb (getD dgray x 0) k) (eqb (getD gray (getD dgray k 0) 0) k))
+-- a number x at place k of the one, y at place k of the other: both below 8, and each table takes the other's number back to k
+inverse : ℕ → ℕ → ℕ → Bool
+inverse k x y = both (both (ltb x 8) (ltb y 8)) (both (eqb (getD dgray x 0) k) (eqb (getD gray y 0) k))
+
+at-place : ℕ → ℕ → Bool
+at-place k x = inverse k x (getD dgray k 0)
+
+facts : (k x y : ℕ) → T (inverse k x y) → (x < 8) × (y < 8) × (getD dgray x 0 ≡ k) × (getD gray y 0 ≡ k)
+unfolding inverse
+facts k x y t =
+    let below = both-left (both (ltb x 8) (ltb y 8)) (both (eqb (getD dgray x 0) k) (eqb (getD gray y 0) k)) t in
+    let back = both-right (both (ltb x 8) (ltb y 8)) (both (eqb (getD dgray x 0) k) (eqb (getD gray y 0) k)) t in (
+      ltb→lt x 8 (both-left (ltb x 8) (ltb y 8) below),
+      ltb→lt y 8 (both-right (ltb x 8) (ltb y 8) below),
+      eqb→eq (getD dgray x 0) k (both-left (eqb (getD dgray x 0) k) (eqb (getD gray y 0) k) back),
+      eqb→eq (getD gray y 0) k (both-right (eqb (getD dgray x 0) k) (eqb (getD gray y 0) k) back),
+    )
 
 module _ (k : ℕ) (h : k < 8) where
-  tested : T (inverse k (getD gray k 0))
-  unfolding inverse gray dgray
-  tested = at inverse gray tt k h
+  tested : T (at-place k (getD gray k 0))
+  unfolding at-place inverse gray dgray
+  tested = at at-place gray tt k h
+
+  all-facts : (getD gray k 0 < 8) × (getD dgray k 0 < 8) × (getD dgray (getD gray k 0) 0 ≡ k) × (getD gray (getD dgray k 0) 0 ≡ k)
+  unfolding at-place
+  all-facts = facts k (getD gray k 0) (getD dgray k 0) tested
 
   pub gray-lt : getD gray k 0 < 8
-  unfolding inverse
-  gray-lt = ltb→lt (getD gray k 0) 8 (both-left (ltb (getD gray k 0) 8) (ltb (getD dgray k 0) 8) (both-left (both (ltb (getD gray k 0) 8) (ltb (getD dgray k 0) 8)) (both (eqb (getD dgray (getD gray k 0) 0) k) (eqb (getD gray (getD dgray k 0) 0) k)) tested))
+  gray-lt = all-facts .0
 
   pub dgray-lt : getD dgray k 0 < 8
-  unfolding inverse
-  dgray-lt = ltb→lt (getD dgray k 0) 8 (both-right (ltb (getD gray k 0) 8) (ltb (getD dgray k 0) 8) (both-left (both (ltb (getD gray k 0) 8) (ltb (getD dgray k 0) 8)) (both (eqb (getD dgray (getD gray k 0) 0) k) (eqb (getD gray (getD dgray k 0) 0) k)) tested))
+  dgray-lt = all-facts .1
 
   pub dgray-gray : getD dgray (getD gray k 0) 0 ≡ k
-  unfolding inverse
-  dgray-gray = eqb→eq (getD dgray (getD gray k 0) 0) k (both-left (eqb (getD dgray (getD gray k 0) 0) k) (eqb (getD gray (getD dgray k 0) 0) k) (both-right (both (ltb (getD gray k 0) 8) (ltb (getD dgray k 0) 8)) (both (eqb (getD dgray (getD gray k 0) 0) k) (eqb (getD gray (getD dgray k 0) 0) k)) tested))
+  dgray-gray = all-facts .2
 
   pub gray-dgray : getD gray (getD dgray k 0) 0 ≡ k
-  unfolding inverse
-  gray-dgray = eqb→eq (getD gray (getD dgray k 0) 0) k (both-right (eqb (getD dgray (getD gray k 0) 0) k) (eqb (getD gray (getD dgray k 0) 0) k) (both-right (both (ltb (getD gray k 0) 8) (ltb (getD dgray k 0) 8)) (both (eqb (getD dgray (getD gray k 0) 0) k) (eqb (getD gray (getD dgray k 0) 0) k)) tested))
+  gray-dgray = all-facts .3
 
 -- a place that is read is one of the 40
 pub place-lt : (bits track : ℕ) → track < 5 → place-of bits track < 40
