@@ -1,4 +1,3 @@
 -- The laws that belong to no one function.
-pub mod Choosing
 pub mod Lengths
 pub mod Reading

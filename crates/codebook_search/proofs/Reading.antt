@@ -21,9 +21,9 @@ use Rattle.codebook_target.specs.Targets.{cor-h-x}
 use Rattle.codebook_target.specs.Starts.{signs-of as set-signs, magnitudes-of, set-sign}
 use Rattle.codebook_matrix.specs.Matrices.{cor-h}
 use Rattle.codebook_search.specs.declared.PulseWords.{PulseWords}
-use Rattle.codebook_search.specs.declared.Trial.{Trial}
+use Rattle.codebook_choice.specs.declared.Trial.{Trial}
 use Rattle.codebook_search.specs.Pulses.{positions-of, signs-of, by-track, placed, build-code, chosen, of-correlation, of-impulse, code-4i40-17bits}
-use Rattle.codebook_search.proofs.Choosing.{Of-track, In-tracks, Rotated, Spread, search-spread}
+use Rattle.codebook_choice.proofs.Choosing.{Of-track, In-tracks, Rotated, Spread, search-spread}
 
 -- what a decoder reads of these places
 abbrev pub Read : List ℤ → Places → Outcome Places (List ℤ)

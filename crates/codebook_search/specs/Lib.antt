@@ -1,4 +1,3 @@
--- The second half of TS 26.073 code_4i40_17bits and the whole of it: what the contracts of `codebook_search` cite.
-pub mod Choices
+-- TS 26.073 build_code and code_4i40_17bits: what the contracts of `codebook_search` cite.
 pub mod Pulses
 pub mod Opens

@@ -18,12 +18,12 @@ use Rattle.codebook_target.specs.Sharpenings.{doubled, sharpened}
 use Rattle.codebook_target.specs.Targets.{cor-h-x}
 use Rattle.codebook_target.specs.Starts.{signs-of as set-signs, magnitudes-of, set-sign}
 use Rattle.codebook_matrix.specs.Matrices.{cor-h}
-use Rattle.codebook_search.specs.declared.Trial.{Trial}
+use Rattle.codebook_choice.specs.declared.Trial.{Trial}
 use Rattle.codebook_search.specs.declared.PulseWords.{PulseWords}
 use Rattle.codebook_search.specs.declared.SearchResult.{SearchResult}
 use Rattle.codebook_search.specs.declared.Pulses.{Pulses}
 use Rattle.codebook_search.specs.declared.Pulses.the-variants.{Words, Refused}
-use Rattle.codebook_search.specs.Choices.{search-4i40}
+use Rattle.codebook_choice.specs.Choices.{search-4i40}
 
 -- ---- build_code
 -- 01: the position word, 'indx' of build_code

@@ -4,7 +4,7 @@ use Rattle.codebook_search.proofs.searched.Tie as tie
 use mir.Syntax.{w16}
 use Rattle.fixed.proofs.Bounds.{got}
 use Rattle.codebook_search.specs.Pulses.{chosen, of-correlation, of-impulse, code-4i40-17bits}
-use Rattle.codebook_search.proofs.Choosing.{search-lt}
+use Rattle.codebook_choice.proofs.Choosing.{search-lt}
 
 doubled-requires : tie.Need-doubled-requires
 doubled-requires c κs = search needs

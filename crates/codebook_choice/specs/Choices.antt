@@ -1,0 +1,90 @@
+-- TS 26.073 search_4i40: from each start the other three tracks take their best place in turn.
+use mathlib.Core.Bool.{Bool, cond}
+use mathlib.Core.List.{List}
+use Prim.Native.Nat.{ℕ, zero, suc, _+_, _*_}
+use lib.IntN.{ℤ, pos, negsuc}
+use lib.Signed.{ltZ}
+use Rattle.fixed.specs.Operators.{add, mult, round, L-mult, L-mac, L-msu, L-deposit-h}
+use Rattle.fixed.specs.Lists.{at}
+use Rattle.codebook_target.specs.Starts.{may-start}
+use Rattle.codebook_matrix.specs.Matrices.{cell}
+use Rattle.codebook_choice.specs.declared.Step.{Step}
+use Rattle.codebook_choice.specs.declared.Trial.{Trial}
+
+-- 'sq1 = mult(ps1, ps1)', 'alp_16 = round(alp1)': a pulse more at a place, the sum with it, the energy with it
+unfoldable pub step-to : ℕ → ℤ → ℤ → Step
+step-to p s e = record { place = p; sum = s; square = mult s s; energy = round e }
+
+-- 's = L_msu(L_mult(alp, sq1), sq, alp_16)', 'if (s > 0)': a square over its energy is greater than the one held
+abbrev pub exceeds : ℤ → ℤ → ℤ → ℤ → Bool
+exceeds square energy held-square held-energy = ltZ (pos 0) (L-msu (L-mult held-energy square) held-square energy)
+
+-- the step held, or the next where it is greater
+unfoldable pub better : Step → Step → Step
+better held next = cond (exceeds (next .square) (next .energy) (held .square) (held .energy)) next held
+
+-- 'sq = -1', 'alp = 1', 'ps = 0', 'ix = track': nothing found yet
+unfoldable pub none-in : ℕ → Step
+none-in track = record { place = track; sum = pos 0; square = negsuc 0; energy = pos 1 }
+
+-- the best of the first n places of a track
+unfoldable pub best-step : (ℕ → Step) → ℕ → ℕ → Step
+best-step f track zero = none-in track
+best-step f track (suc n) = better (best-step f track n) (f (track + 5 * n))
+
+-- the four pulses that a start and the three steps after it give
+unfoldable pub of-steps : ℕ → Step → Step → Step → Trial
+of-steps p one two three =
+    record { first = p; second = one .place; third = two .place; fourth = three .place; square = three .square; energy = three .energy }
+
+-- 'psk', 'alpk': the trial held, or the next where it is greater
+unfoldable pub kept : Trial → Trial → Trial
+kept held next = cond (exceeds (next .square) (next .energy) (held .square) (held .energy)) next held
+
+-- the correlations without their signs, and the table
+module _ (cs : List ℤ) (m : List (List ℤ)) where
+  -- 'i1 loop': the energies by 1/4, their crossing by 1/2
+  unfoldable pub second-at : ℕ → ℕ → Step
+  second-at first p =
+      step-to p (add (at cs first) (at cs p))
+      (L-mac (L-mac (L-mult (cell m first first) (pos 8192)) (cell m p p) (pos 8192)) (cell m first p) (pos 16384))
+
+  -- 'i2 loop': the energy so far by 1/4, that of the place by 1/16, its crossings by 1/8, the later pulse first
+  unfoldable pub third-at : ℕ → Step → ℕ → Step
+  third-at first one p =
+      step-to p (add (one .sum) (at cs p))
+      (L-mac (L-mac (L-mac (L-mult (one .energy) (pos 8192)) (cell m p p) (pos 2048)) (cell m (one .place) p) (pos 4096)) (cell m first p) (pos 4096))
+
+  -- 'i3 loop': the energy so far as it is
+  unfoldable pub fourth-at : ℕ → ℕ → Step → ℕ → Step
+  fourth-at first second two p =
+      step-to p (add (two .sum) (at cs p))
+      (L-mac (L-mac (L-mac (L-mac (L-deposit-h (two .energy)) (cell m p p) (pos 2048)) (cell m (two .place) p) (pos 4096)) (cell m second p) (pos 4096))
+      (cell m first p) (pos 4096))
+
+  unfoldable pub last-step : ℕ → Step → Step → ℕ → Trial
+  last-step p one two d = of-steps p one two (best-step (fourth-at p (one .place) two) d 8)
+
+  unfoldable pub last-steps : ℕ → Step → ℕ → ℕ → Trial
+  last-steps p one c d = last-step p one (best-step (third-at p one) c 8) d
+
+  unfoldable pub trial-from : ℕ → ℕ → ℕ → ℕ → Trial
+  trial-from p b c d = last-steps p (best-step (second-at p) b 8) c d
+
+  module _ (left : List ℤ) where
+    -- 'if (dn2[i0] >= 0)': a start is tried where it has the right to
+    unfoldable pub started : ℕ → ℕ → ℕ → Trial → ℕ → Trial
+    started b c d held p = cond (may-start left p) (kept held (trial-from p b c d)) held
+
+    -- the first n places of track a start, then tracks b, c, d follow
+    unfoldable pub turn : ℕ → ℕ → ℕ → ℕ → Trial → ℕ → Trial
+    turn a b c d held zero = held
+    turn a b c d held (suc n) = started b c d (turn a b c d held n) (a + 5 * n)
+
+    -- 'cyclic permutation of starting positions': with a last track, each of the four starts once
+    unfoldable pub turns : ℕ → Trial → Trial
+    turns l held = turn 1 2 l 0 (turn 2 l 0 1 (turn l 0 1 2 (turn 0 1 2 l held 8) 8) 8) 8
+
+    -- 'psk = -1', 'alpk = 1', 'codvec[i] = i', then last tracks 3 and 4
+    unfoldable pub search-4i40 : Trial
+    search-4i40 = turns 4 (turns 3 (record { first = 0; second = 1; third = 2; fourth = 3; square = negsuc 0; energy = pos 1 }))
