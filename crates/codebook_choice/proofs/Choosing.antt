@@ -2,18 +2,15 @@
 use mathlib.Core.Path.{_≡_, refl}
 use mathlib.Core.List.{List}
 use mathlib.Core.Logic.{_⊎_, inl, inr, ⊎-elim}
-use Prim.Native.Nat.{ℕ, zero, suc, _+_, _*_, _%_, _≤_, _<_}
+use Prim.Native.Nat.{ℕ, zero, suc, _+_, _*_, _≤_, _<_}
 use native.Mathlib.Omega.{arith}
 use lib.IntN.{ℤ}
 use Rattle.fixed.proofs.Bounds.{either}
 use Rattle.codebook_target.specs.Starts.{may-start}
+use Rattle.codebook_target.proofs.Starting.{Of-track}
 use Rattle.codebook_choice.specs.declared.Step.{Step}
 use Rattle.codebook_choice.specs.declared.Trial.{Trial}
 use Rattle.codebook_choice.specs.Choices.{step-to, exceeds, better, none-in, best-step, second-at, third-at, fourth-at, of-steps, last-step, last-steps, trial-from, kept, started, turn, turns, search-4i40}
-
--- a place of a track
-abbrev pub Of-track : ℕ → ℕ → Type 0
-Of-track track p = (p % 5 ≡ track) × (p < 40)
 
 -- the best place of a track is one of it
 pub best-in : (f : ℕ → Step) (track n : ℕ) → ((p : ℕ) → f p .place ≡ p) → track < 5 → n ≤ 8 → Of-track track (best-step f track n .place)

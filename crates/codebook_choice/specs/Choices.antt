@@ -15,7 +15,7 @@ use Rattle.codebook_choice.specs.declared.Trial.{Trial}
 unfoldable pub step-to : ℕ → ℤ → ℤ → Step
 step-to p s e = record { place = p; sum = s; square = mult s s; energy = round e }
 
--- 's = L_msu(L_mult(alp, sq1), sq, alp_16)', 'if (s > 0)': a square over its energy is greater than the one held
+-- 's = L_mult(alp, sq1)', 's = L_msu(s, sq, alp_16)', 'if (s > 0)': a square over its energy is greater than the one held
 abbrev pub exceeds : ℤ → ℤ → ℤ → ℤ → Bool
 exceeds square energy held-square held-energy = ltZ (pos 0) (L-msu (L-mult held-energy square) held-square energy)
 
@@ -23,7 +23,7 @@ exceeds square energy held-square held-energy = ltZ (pos 0) (L-msu (L-mult held-
 unfoldable pub better : Step → Step → Step
 better held next = cond (exceeds (next .square) (next .energy) (held .square) (held .energy)) next held
 
--- 'sq = -1', 'alp = 1', 'ps = 0', 'ix = track': nothing found yet
+-- 'sq = -1', 'alp = 1', 'ps = 0', and the track's first place: nothing found yet
 unfoldable pub none-in : ℕ → Step
 none-in track = record { place = track; sum = pos 0; square = negsuc 0; energy = pos 1 }
 
@@ -62,12 +62,15 @@ module _ (cs : List ℤ) (m : List (List ℤ)) where
       (L-mac (L-mac (L-mac (L-mac (L-deposit-h (two .energy)) (cell m p p) (pos 2048)) (cell m (two .place) p) (pos 4096)) (cell m second p) (pos 4096))
       (cell m first p) (pos 4096))
 
+  -- the fourth pulse, in track d
   unfoldable pub last-step : ℕ → Step → Step → ℕ → Trial
   last-step p one two d = of-steps p one two (best-step (fourth-at p (one .place) two) d 8)
 
+  -- the third, in track c, and the fourth
   unfoldable pub last-steps : ℕ → Step → ℕ → ℕ → Trial
   last-steps p one c d = last-step p one (best-step (third-at p one) c 8) d
 
+  -- from a start, the second in track b and these
   unfoldable pub trial-from : ℕ → ℕ → ℕ → ℕ → Trial
   trial-from p b c d = last-steps p (best-step (second-at p) b 8) c d
 
@@ -81,10 +84,10 @@ module _ (cs : List ℤ) (m : List (List ℤ)) where
     turn a b c d held zero = held
     turn a b c d held (suc n) = started b c d (turn a b c d held n) (a + 5 * n)
 
-    -- 'cyclic permutation of starting positions': with a last track, each of the four starts once
+    -- 'Cyclic permutation of i0,i1,i2 and i3': with a last track, each of the four tracks starts once
     unfoldable pub turns : ℕ → Trial → Trial
     turns l held = turn 1 2 l 0 (turn 2 l 0 1 (turn l 0 1 2 (turn 0 1 2 l held 8) 8) 8) 8
 
-    -- 'psk = -1', 'alpk = 1', 'codvec[i] = i', then last tracks 3 and 4
+    -- 'Default value': 'psk = -1', 'alpk = 1' and places 0 to 3; then last tracks 3 and 4
     unfoldable pub search-4i40 : Trial
     search-4i40 = turns 4 (turns 3 (record { first = 0; second = 1; third = 2; fourth = 3; square = negsuc 0; energy = pos 1 }))

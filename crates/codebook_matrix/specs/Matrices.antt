@@ -10,22 +10,24 @@ use Rattle.fixed.specs.Operators.{L-mult, mult, L-shl, shl, extract-h, round}
 use Rattle.fixed.specs.Lists.{at, tabulate, L-sum}
 use Rattle.energy.specs.Root.{Inv-sqrt}
 
--- ---- 'Scaling h[] for maximum precision'
+-- ---- cor_h, 'Scaling for maximum precision'
 -- the energy, from 2 on
 unfoldable pub energy : List ℤ → ℤ
 energy hs = L-sum (pos 2) (λ k. L-mult (at hs k) (at hs k)) 40
 
--- 'k = 0.99 * 1 / sqrt(energy)'
+-- 'k = extract_h (L_shl (Inv_sqrt (s), 7))', then 'k = 0.99*k'
 unfoldable pub gain-of : ℤ → ℤ
 gain-of e = mult (extract-h (L-shl (Inv-sqrt (L-shl e (negsuc 0))) (pos 7))) (pos 32440)
 
+-- 'h2[i] = round (L_shl (L_mult (h[i], k), 9))'
 unfoldable pub scaled-by : ℤ → List ℤ → List ℤ
 scaled-by gain hs = tabulate (λ k. round (L-shl (L-mult (at hs k) gain) (pos 9))) 40
 
+-- 'h2[i] = shr (h[i], 1)'
 unfoldable pub halved : List ℤ → List ℤ
 halved hs = tabulate (λ k. shl (at hs k) (negsuc 0)) 40
 
--- halves where the high word of the energy is the greatest that there is, 32767
+-- 'if (j == 0)': halves where the high word of the energy is the greatest that there is, 32767
 unfoldable pub normalised : List ℤ → List ℤ
 normalised hs = cond (ltZ (extract-h (energy hs)) (pos 32767)) (scaled-by (gain-of (energy hs)) hs) (halved hs)
 
@@ -34,7 +36,7 @@ normalised hs = cond (ltZ (extract-h (energy hs)) (pos 32767)) (scaled-by (gain-
 unfoldable pub products : List ℤ → ℕ → ℕ → ℤ
 products ns distance n = L-sum (pos 0) (λ k. L-mult (at ns k) (at ns (k + distance))) n
 
--- 'rr[i][j] = mult(round(s), mult(sign[i], sign[j]))'; on the diagonal there are no signs
+-- 'rr[j][i] = mult (round (s), mult (sign[i], sign[j]))'; on the diagonal there are no signs
 abbrev pub signed : List ℤ → ℕ → ℕ → ℤ → ℤ
 signed signs i j v = cond (eqb i j) v (mult v (mult (at signs i) (at signs j)))
 

@@ -15,6 +15,7 @@ use Rattle.codebook.specs.declared.Places.{Places}
 use Rattle.codebook.specs.Words.{position-bits, slot, sign-bit}
 use Rattle.codebook.specs.Readers.{decode}
 use Rattle.codebook.proofs.ReadBack.{positions-fit, positions-back, signs-fit, signs-back, accepted-fits}
+use Rattle.codebook_target.proofs.Starting.{Of-track}
 use Rattle.codebook_target.specs.declared.SharpeningGain.{SharpeningGain}
 use Rattle.codebook_target.specs.Sharpenings.{doubled, sharpened}
 use Rattle.codebook_target.specs.Targets.{cor-h-x}
@@ -23,7 +24,7 @@ use Rattle.codebook_matrix.specs.Matrices.{cor-h}
 use Rattle.codebook_search.specs.declared.PulseWords.{PulseWords}
 use Rattle.codebook_choice.specs.declared.Trial.{Trial}
 use Rattle.codebook_search.specs.Pulses.{positions-of, signs-of, by-track, placed, build-code, chosen, of-correlation, of-impulse, code-4i40-17bits}
-use Rattle.codebook_choice.proofs.Choosing.{Of-track, In-tracks, Rotated, Spread, search-spread}
+use Rattle.codebook_choice.proofs.Choosing.{In-tracks, Rotated, Spread, search-spread}
 
 -- what a decoder reads of these places
 abbrev pub Read : List ℤ → Places → Outcome Places (List ℤ)

@@ -44,7 +44,7 @@ full-sign sign = cond (ltZ (pos 0) sign) (pos 32767) (negsuc 32767)
 abbrev pub delayed : List ℤ → ℕ → ℕ → ℤ
 delayed hs p i = cond (ltb i p) (pos 0) (at hs (i - p))
 
--- 's = L_mac(s, *p0++, _sign[0])': a pulse more at place i
+-- 's = L_mac(s, *p0++, _sign[0])' of build_code: a pulse more at place i
 unfoldable pub through : List ℤ → List ℤ → ℕ → ℤ → ℕ → ℤ
 through hs signs i s p = L-mac s (delayed hs p i) (full-sign (at signs p))
 
@@ -57,6 +57,7 @@ through-all hs signs i s (p ∷ ps) = through-all hs signs i (through hs signs i
 unfoldable pub in-order : Trial → List ℕ
 in-order t = t .first ∷ t .second ∷ t .third ∷ t .fourth ∷ []
 
+-- at place i, from 0 on, rounded
 unfoldable pub filtered-at : Trial → List ℤ → List ℤ → ℕ → ℤ
 filtered-at t hs signs i = round (through-all hs signs i (pos 0) (in-order t))
 
@@ -83,9 +84,11 @@ chosen hs cs = search-4i40 (magnitudes-of cs) (cor-h hs (set-signs cs)) (set-sig
 unfoldable pub of-correlation : List ℤ → List ℤ → ℕ → ℤ → SearchResult
 of-correlation hs cs lag sharp = build-code (chosen hs cs) hs (set-signs cs) lag sharp
 
+-- from the target and the sharpened impulse
 unfoldable pub of-impulse : List ℤ → List ℤ → ℕ → ℤ → SearchResult
 of-impulse xs hs lag sharp = of-correlation hs (cor-h-x xs hs) lag sharp
 
+-- code_4i40_17bits: the impulse is sharpened first
 unfoldable pub code-4i40-17bits : List ℤ → List ℤ → ℕ → SharpeningGain → SearchResult
 code-4i40-17bits xs hs lag gain = of-impulse xs (sharpened hs lag (doubled gain)) lag (doubled gain)
 

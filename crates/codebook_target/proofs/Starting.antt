@@ -20,7 +20,7 @@ use Rattle.codebook_target.specs.Starts.{lesser, least, Left, without, d
 
 -- ---- the place found
 -- one of a track's
-abbrev Of-track : ℕ → ℕ → Type 0
+abbrev pub Of-track : ℕ → ℕ → Type 0
 Of-track track p = (p % 5 ≡ track) × (p < 40)
 
 -- it is the last dropped, or one of the track

@@ -9,14 +9,15 @@ use Rattle.fixed.specs.Operators.{abs-s}
 use Rattle.fixed.specs.Lists.{at, tabulate}
 use Rattle.codebook_target.specs.declared.Smallest.{Smallest}
 
--- 32767 at 0 and above, else -32767
+-- 'set sign according to dn[]': 32767 at 0 and above, else -32767
 abbrev pub sign-of : ℤ → ℤ
 sign-of v = cond (ltZ v (pos 0)) (negsuc 32766) (pos 32767)
 
+-- and so every place
 unfoldable pub signs-of : List ℤ → List ℤ
 signs-of cs = tabulate (λ i. sign-of (at cs i)) 40
 
--- 'dn[i]' without its sign
+-- 'modify dn[] according to the fixed sign': the magnitudes
 unfoldable pub magnitudes-of : List ℤ → List ℤ
 magnitudes-of cs = tabulate (λ i. abs-s (at cs i)) 40
 

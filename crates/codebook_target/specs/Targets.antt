@@ -7,7 +7,7 @@ use lib.Signed.{ltZ}
 use Rattle.fixed.specs.Operators.{sub, L-abs, L-mult, L-shl, round, norm-l}
 use Rattle.fixed.specs.Lists.{at, tabulate, L-sum}
 
--- the target from place i on against the impulse
+-- 's = L_mac (s, x[j], h[j - i])': the target from place i on against the impulse
 unfoldable pub correlated : List ℤ → List ℤ → ℕ → ℤ
 correlated xs hs i = L-sum (pos 0) (λ k. L-mult (at xs (i + k)) (at hs k)) (40 - i)
 
@@ -24,7 +24,7 @@ greatest raw track (suc n) = greater (greatest raw track n) (L-abs (at raw (trac
 unfoldable pub total : List ℤ → ℤ
 total raw = L-sum (pos 5) (λ t. L-shl (greatest raw t 8) (negsuc 0)) 5
 
--- 'j = sub(norm_l(tot), sf)' with sf = 1, and each sum so shifted and rounded
+-- 'j = sub (norm_l (tot), sf)' with sf = 1, and each sum so shifted and rounded
 unfoldable pub normalised : List ℤ → List ℤ
 normalised raw = tabulate (λ i. round (L-shl (at raw i) (sub (pos (norm-l (total raw))) (pos 1)))) 40
 

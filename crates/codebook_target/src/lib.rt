@@ -1,11 +1,9 @@
 // What the pulse search is led by, from codebook/search.rs: the sharpened impulse, the target's correlation with it, the signs and the starts that the correlation gives.
-ghost use mathlib.Core.Bool.{cond};
 ghost use mathlib.Core.Path.{_≡_};
 ghost use Prim.Native.Nat.{_<_};
-ghost use lib.Signed.{ltZ};
-ghost use Rattle.fixed.specs.Lists.{at, tabulate};
+ghost use Rattle.fixed.specs.Lists.{tabulate};
 ghost use Rattle.codebook_target.specs.Sharpenings.{doubled, sharpened};
-ghost use Rattle.codebook_target.specs.Targets.{correlated, greatest, total, cor-h-x};
+ghost use Rattle.codebook_target.specs.Targets.{correlated, greater, greatest, total, cor-h-x};
 ghost use Rattle.codebook_target.specs.Starts.{sign-of, signs-of, magnitudes-of, lesser, least, set-sign};
 
 const SUBFRAME_SAMPLES: usize = 40;
@@ -103,7 +101,7 @@ fn greatest(raw: &[i32; 40], track: usize) -> i32
 }
 
 fn greater(a: i32, b: i32) -> i32
-    ensures { λ r. ⌜ r ≡ cond (ltZ a b) b a ⌝ }
+    ensures { λ r. ⌜ r ≡ greater a b ⌝ }
 {
     if a < b {
         return b;

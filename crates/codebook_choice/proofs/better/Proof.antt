@@ -13,12 +13,12 @@ compared : (c : tie.After-exceeds) →
     ≡ exceeds (c .before .before .before .before .before .args .next .square) (c .before .before .before .before .before .args .next .energy)
     (c .before .before .before .before .before .args .held .square) (c .before .before .before .before .before .args .held .energy)
 compared c =
-    let d = c .before in
-    let a = d .before .before .before .before .args in
-    let x : toZ w16 (ofZ w16 (a .next .square)) ≡ a .next .square = got w16 (d .before .before .before .struct-told .given .1 .1 .0 .1) refl in
-    let y : toZ w16 (ofZ w16 (a .next .energy)) ≡ a .next .energy = got w16 (d .before .before .struct-told2 .given .1 .1 .1 .0 .1) refl in
-    let z : toZ w16 (ofZ w16 (a .held .square)) ≡ a .held .square = got w16 (d .before .struct-told3 .given .1 .1 .0 .1) refl in
-    let w : toZ w16 (ofZ w16 (a .held .energy)) ≡ a .held .energy = got w16 (d .struct-told4 .given .1 .1 .1 .0 .1) refl in
+    let s = c .before .before .before .before .before in
+    let a = s .args in
+    let x : toZ w16 (ofZ w16 (a .next .square)) ≡ a .next .square = got w16 (s .good .1 .0 .1 .1 .1 .1 .0 .1) refl in
+    let y : toZ w16 (ofZ w16 (a .next .energy)) ≡ a .next .energy = got w16 (s .good .1 .0 .1 .1 .1 .1 .1 .0 .1) refl in
+    let z : toZ w16 (ofZ w16 (a .held .square)) ≡ a .held .square = got w16 (s .good .0 .1 .1 .1 .1 .0 .1) refl in
+    let w : toZ w16 (ofZ w16 (a .held .energy)) ≡ a .held .energy = got w16 (s .good .0 .1 .1 .1 .1 .1 .0 .1) refl in
     rw (x, y, z, w) at (c .exceeds .ensures)
 
 exceeds-requires : tie.Need-exceeds-requires
