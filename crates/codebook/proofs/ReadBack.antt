@@ -40,7 +40,7 @@ facts k x y t =
 module _ (k : ℕ) (h : k < 8) where
   tested : T (at-place k (getD gray k 0))
   unfolding at-place inverse gray dgray
-  tested = at at-place gray tt k h
+  tested = at 0 at-place gray tt k h
 
   all-facts : (getD gray k 0 < 8) × (getD dgray k 0 < 8) × (getD dgray (getD gray k 0) 0 ≡ k) × (getD gray (getD dgray k 0) 0 ≡ k)
   unfolding at-place

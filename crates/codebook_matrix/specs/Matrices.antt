@@ -6,8 +6,8 @@ use lib.Dec.{eqb}
 use lib.IntN.{ℤ, pos, negsuc}
 use lib.ListN.{getD}
 use lib.Signed.{ltZ}
-use Rattle.fixed.specs.Operators.{L-mult, mult, L-shl, shl, extract-h, round}
-use Rattle.fixed.specs.Lists.{at, tabulate, L-sum}
+use Rattle.fixed.specs.Operators.{L-mult, mult, L-shl, extract-h, round}
+use Rattle.fixed.specs.Lists.{at, tabulate, shifted, L-sum}
 use Rattle.energy.specs.Root.{Inv-sqrt}
 
 -- ---- cor_h, 'Scaling for maximum precision'
@@ -24,8 +24,8 @@ unfoldable pub scaled-by : ℤ → List ℤ → List ℤ
 scaled-by gain hs = tabulate (λ k. round (L-shl (L-mult (at hs k) gain) (pos 9))) 40
 
 -- 'h2[i] = shr (h[i], 1)'
-unfoldable pub halved : List ℤ → List ℤ
-halved hs = tabulate (λ k. shl (at hs k) (negsuc 0)) 40
+abbrev pub halved : List ℤ → List ℤ
+halved hs = shifted hs (negsuc 0) 40
 
 -- 'if (j == 0)': halves where the high word of the energy is the greatest that there is, 32767
 unfoldable pub normalised : List ℤ → List ℤ

@@ -2,7 +2,7 @@
 ghost use mathlib.Core.Path.{_≡_};
 ghost use Prim.Native.Nat.{_<_};
 ghost use Rattle.fixed.specs.Lists.{at};
-ghost use Rattle.codebook_matrix.specs.Matrices.{energy, gain-of, halved, scaled-by, normalised, signed, correlations, cor-h};
+ghost use Rattle.codebook_matrix.specs.Matrices.{energy, gain-of, scaled-by, normalised, signed, correlations, cor-h};
 
 const SUBFRAME_SAMPLES: usize = 40;
 
@@ -28,7 +28,7 @@ fn normalized(impulse: &[i16; 40]) -> [i16; 40]
     if fixed::high(energy) < 32767 {
         return scaled(impulse, gain(energy));
     }
-    halved(impulse)
+    fixed::shifted40(impulse, -1)
 }
 
 // Terms are not negative, so the start may be added last.
@@ -46,16 +46,6 @@ fn gain(energy: i32) -> i16
         fixed::high(fixed::shift(root, INVERSE_SCALE_SHIFT)),
         IMPULSE_HEADROOM_Q15,
     )
-}
-
-fn halved(impulse: &[i16; 40]) -> [i16; 40]
-    ensures { λ r. ⌜ r ≡ halved (now (impulse .entry)) ⌝ }
-{
-    let mut words = [0i16; 40];
-    for i in 0..SUBFRAME_SAMPLES {
-        words[i] = fixed::shift_word(impulse[i], -1);
-    }
-    words
 }
 
 fn scaled(impulse: &[i16; 40], gain: i16) -> [i16; 40]

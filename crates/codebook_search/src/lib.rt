@@ -5,7 +5,6 @@ use refusal::Refusal;
 ghost use mathlib.Core.Path.{_≡_};
 ghost use Prim.Native.Nat.{_<_, _≤_, _^_};
 ghost use lib.IntN.{pos};
-ghost use lib.ListN.{length};
 ghost use lib.Signed.{ltZ};
 ghost use Rattle.fixed.specs.Lists.{at};
 ghost use Rattle.codebook.specs.Gray.{gray};
@@ -73,8 +72,8 @@ pub fn search(
         return Pulses::Refused(Refusal::PulseLag(lag));
     }
     let found = searched(
-        &forty(target),
-        &forty(impulse_q12),
+        &fixed::forty(target),
+        &fixed::forty(impulse_q12),
         lag as usize,
         pitch_sharp_q14,
     );
@@ -89,15 +88,6 @@ pub fn search(
     fixed::copy(filtered_words, filtered_q12);
     fixed::copy(impulse_words, sharpened_impulse_q12);
     Pulses::Words(words)
-}
-
-fn forty(list: &[i16]) -> [i16; 40]
-    requires { ⌜ length (now list) ≡ 40 ⌝ }
-    ensures { λ r. ⌜ r ≡ now (list .entry) ⌝ }
-{
-    let mut words = [0i16; 40];
-    fixed::copy(list, &mut words);
-    words
 }
 
 fn searched(

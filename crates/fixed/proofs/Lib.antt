@@ -13,3 +13,4 @@ pub mod Choices
 pub mod Plain
 pub mod Products
 pub mod LowBits
+pub mod Overflows

@@ -1,16 +1,16 @@
 -- What a test of a number's sign tells, a magnitude for every width, and the remainder of a floor.
 use mathlib.Core.Path.{_≡_, refl, sym, ap, _∙_}
-use mathlib.Core.Bool.{true, false}
+use mathlib.Core.Bool.{Bool, true, false, not}
 use Prim.Native.Nat.{ℕ, zero, suc, _+_, _-_, _*_, _/_, _%_, _^_, _<_, _≤_}
 use native.Mathlib.Nat.{div-add-mod', mod-lt}
 use native.Mathlib.Omega.{arith}
-use lib.Dec.{T, ltb}
+use lib.Dec.{T, ltb, leb}
 use lib.IntN.{ℤ, pos, negsuc, negℤ, natAbs, subℕ, negℤ-negℤ, _+ℤ_, _-ℤ_, _*ℤ_}
-use lib.Signed.{mag, ltZ, nonNeg, shrZ}
+use lib.Signed.{mag, ltZ, leZ, nonNeg, shrZ}
 use mir.Syntax.{Width, w16}
 use mir.Val.{SFits, Fits, hbits}
 use mir.ValLaws.{half-full}
-use borrow.Author.Tests.{ltb-true, ltb-false, le-ltb, lt-ltb}
+use borrow.Author.Tests.{ltb-true, ltb-false, le-ltb, lt-ltb, le-leb, lt-leb}
 use Rattle.fixed.specs.Clip.{clip}
 use Rattle.fixed.specs.Operators.{remainder, positive-or}
 use Rattle.fixed.proofs.Bounds.{either, ok}
@@ -124,3 +124,14 @@ module _ {A : Type 0} (a : A) (f : ℕ → A) where
   is-positive (pos zero) e = absurd (omega (arith, ltb-false 0 1 e))
   is-positive (pos (suc n)) e = refl
   is-positive (negsuc n) e = contradiction (sym e)
+
+-- ---- one order from the other
+turned : (a b : ℕ) (t : Bool) → ltb a b ≡ t → leb b a ≡ not t
+turned a b true e = lt-leb b a (ltb-true a b e)
+turned a b false e = le-leb b a (ltb-false a b e)
+
+pub le-not-lt : (a b : ℤ) (t : Bool) → ltZ a b ≡ t → leZ b a ≡ not t
+le-not-lt (pos a) (pos b) t e = turned a b t e
+le-not-lt (pos a) (negsuc b) t e = ap not e
+le-not-lt (negsuc a) (pos b) t e = ap not e
+le-not-lt (negsuc a) (negsuc b) t e = turned b a t e

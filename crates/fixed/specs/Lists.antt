@@ -5,7 +5,7 @@ use Prim.Native.Nat.{ℕ, zero, suc, _+_}
 use lib.Dec.{ltb, leb, eqb}
 use lib.IntN.{ℤ, pos}
 use lib.ListN.{length, getD}
-use Rattle.fixed.specs.Operators.{L-add, L-mult}
+use Rattle.fixed.specs.Operators.{L-add, L-mult, shl}
 
 -- the number at place i
 abbrev pub at : List ℤ → ℕ → ℤ
@@ -23,6 +23,10 @@ tabulate f n = tabulate-from 0 f n
 -- n words of a list, from a place on
 unfoldable pub part : List ℤ → ℕ → ℕ → List ℤ
 part xs from n = tabulate (λ k. at xs (from + k)) n
+
+-- n words, each shifted by a signed count
+unfoldable pub shifted : List ℤ → ℤ → ℕ → List ℤ
+shifted xs count n = tabulate (λ k. shl (at xs k) count) n
 
 -- a list into which another of the same length is copied
 unfoldable pub copied : List ℤ → List ℤ → List ℤ

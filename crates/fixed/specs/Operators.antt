@@ -1,11 +1,14 @@
 -- The basic operators of TS 26.073 (basic_op.h, oper_32b.h) by their names there, each as one number of the integers.
 -- `shrZ z m` is floor (z / m), `natAbs z` is |z|.
+use mathlib.Core.Bool.{Bool, _||_}
 use Prim.Native.Nat.{ℕ, zero, suc, _-_, _*_, _/_, _%_, _^_, min}
 use lib.Count.{leadingZeros}
+use lib.Dec.{leb}
 use lib.IntN.{ℤ, pos, negsuc, negℤ, natAbs, _+ℤ_, _-ℤ_, _*ℤ_}
-use lib.Signed.{shrZ}
+use lib.Signed.{mag, shrZ}
 use Rattle.fixed.specs.Clip.{clip}
 use Rattle.fixed.specs.declared.Halves.{Halves}
+use Rattle.fixed.specs.declared.Flagged.{Flagged}
 
 -- ---- words: sum, difference, sign changed, magnitude
 unfoldable pub add : ℤ → ℤ → ℤ
@@ -42,6 +45,17 @@ L-mac s a b = L-add s (L-mult a b)
 
 unfoldable pub L-msu : ℤ → ℤ → ℤ → ℤ
 L-msu s a b = L-sub s (L-mult a b)
+
+-- ---- the standard's Overflow: whether a value lies past the ends of its type, so that it is clipped; and whether L_mac sets it
+abbrev pub beyond : ℕ → ℤ → Bool
+beyond k z = leb (2 ^ k) (mag z)
+
+unfoldable pub L-mac-overflow : ℤ → ℤ → ℤ → Bool
+L-mac-overflow s a b = beyond 31 (pos 2 *ℤ (a *ℤ b)) || beyond 31 (s +ℤ L-mult a b)
+
+-- the sum with it
+unfoldable pub L-mac-flagged : ℤ → ℤ → ℤ → Flagged
+L-mac-flagged s a b = record { value = L-mac s a b; overflow = L-mac-overflow s a b }
 
 -- ---- the Q15 product of two words: floor, then clip
 unfoldable pub mult : ℤ → ℤ → ℤ

@@ -3,11 +3,12 @@
 ghost use mathlib.Core.Path.{_≡_};
 ghost use Prim.Native.Nat.{_+_, _<_, _≤_, _*_, _^_, min};
 ghost use lib.IntN.{pos, natAbs, _*ℤ_};
+ghost use lib.ListN.{replicate};
 ghost use lib.Signed.{mag, shrZ};
 ghost use Rattle.fixed.specs.Clip.{clip};
-ghost use Rattle.fixed.specs.Operators.{add, sub, negate, abs-s, L-add, L-sub, L-negate, L-abs, L-mult, L-mac, L-msu, mult, extract-h, round, extract-l, L-deposit-h, low-half, L-Extract, Mpy-32, Mpy-32-16, L-shl, shl, even-bits, norm-l, div-s};
+ghost use Rattle.fixed.specs.Operators.{add, sub, negate, abs-s, L-add, L-sub, L-negate, L-abs, L-mult, L-mac, L-msu, L-mac-flagged, mult, extract-h, round, extract-l, L-deposit-h, low-half, L-Extract, Mpy-32, Mpy-32-16, L-shl, shl, even-bits, norm-l, div-s};
 ghost use Rattle.fixed.specs.Line.{line};
-ghost use Rattle.fixed.specs.Lists.{dot, copied};
+ghost use Rattle.fixed.specs.Lists.{dot, shifted, copied};
 
 // ---- Clipping: the only two functions that test for a type's ends.
 
@@ -116,6 +117,22 @@ pub fn msu(sum: i32, a: i16, b: i16) -> i32
     ensures { λ r. ⌜ r ≡ L-msu sum a b ⌝ }
 {
     sub32(sum, product(a, b))
+}
+
+// A sum with the standard's Overflow: whether the product or the sum was clipped.
+pub struct Flagged {
+    pub value: i32,
+    pub overflow: bool,
+}
+
+pub fn mac_flagged(sum: i32, a: i16, b: i16) -> Flagged
+    ensures { λ r. ⌜ r ≡ L-mac-flagged sum a b ⌝ }
+{
+    let wide = sum as i64 + product(a, b) as i64;
+    Flagged {
+        value: clip32(wide),
+        overflow: (1073741823 < exact(a, b)) | ((2147483647 < wide) | (wide < -2147483648)),
+    }
 }
 
 // The Q15 product.
@@ -356,6 +373,26 @@ pub fn dot40(x: &[i16; 40], y: &[i16; 40]) -> i32
 }
 
 // ---- Lists.
+
+// The words of a list of 40; 40 zeros for a list of another length.
+pub fn forty(list: &[i16]) -> [i16; 40]
+    ensures { λ r. ⌜ r ≡ copied (now (list .entry)) (replicate 40 (pos 0)) ⌝ }
+{
+    let mut words = [0i16; 40];
+    copy(list, &mut words);
+    words
+}
+
+// 40 words, each shifted by a signed count.
+pub fn shifted40(x: &[i16; 40], count: i16) -> [i16; 40]
+    ensures { λ r. ⌜ r ≡ shifted (now (x .entry)) count 40 ⌝ }
+{
+    let mut words = [0i16; 40];
+    for i in 0..40 {
+        words[i] = shift_word(x[i], count);
+    }
+    words
+}
 
 // Into a lent list of the same length; one of another length stays as it was.
 pub fn copy(words: &[i16], list: &mut [i16])

@@ -21,7 +21,7 @@ word k x = leb x 32767
 
 entry-le : (k : ℕ) → k < 33 → getD pow2-table k 0 ≤ 32767
 unfolding word pow2-table
-entry-le k h = leb→le (getD pow2-table k 0) 32767 (at word pow2-table tt k h)
+entry-le k h = leb→le (getD pow2-table k 0) 32767 (at 0 word pow2-table tt k h)
 
 pub power-lt : (e f : ℕ) → f < 32768 → power e f < 2 ^ 31
 unfolding power table-line

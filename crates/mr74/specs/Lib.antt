@@ -3,3 +3,4 @@ pub mod Crossing
 pub mod Pitches
 pub mod OpenLoops
 pub mod Codebooks
+pub mod Gains

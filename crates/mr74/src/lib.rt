@@ -3,6 +3,8 @@ use codebook::PulseReading;
 use codebook_search::Pulses;
 use codebook_target::SharpeningGain;
 use encoder_filtering::Filtering;
+use gain::Quantized;
+use gain_pitch::Gained;
 use logarithm::Logarithm;
 use logarithm::Power;
 use open_loop::Detector;
@@ -28,8 +30,11 @@ ghost use Rattle.pitch_search.specs.Filters.{convolve};
 ghost use Rattle.pitch_search.specs.Searches.{Pitch-fr};
 ghost use Rattle.codebook.specs.Readers.{told-places, decode};
 ghost use Rattle.codebook_search.specs.Pulses.{told-words, lent, pulses};
+ghost use Rattle.gain_pitch.specs.Gains.{told-gain, pitch-gain};
+ghost use Rattle.gain.specs.Rows.{told-row, quantize};
 ghost use Rattle.mr74.specs.Crossing.{power-answer};
 ghost use Rattle.mr74.specs.Codebooks.{pulses-answer, places-answer};
+ghost use Rattle.mr74.specs.Gains.{pitch-gain-answer, gain-answer};
 ghost use Rattle.mr74.specs.OpenLoops.{lag-answer, open-loop};
 ghost use Rattle.mr74.specs.Pitches.{fraction-of, subframe-of, lag-of-state, searcher-of, reader-of, fresh-state, accepted-pitch, refused-pitch, pitch-answer, reading-answer, length-answer};
 
@@ -473,6 +478,119 @@ fn places_answer(reading: PulseReading) -> PlacesAnswer
                 second: 0,
                 third: 0,
                 last: 0,
+            }
+        }
+    }
+}
+
+// ---- The gain row. A limit is 0, unrestricted, or 1, resonance.
+
+#[repr(C)]
+pub struct PitchGainAnswer {
+    pub number: u8,
+    pub magnitude: u64,
+    pub gain_q14: i16,
+    pub yy: i16,
+    pub yy_exponent: i16,
+    pub xy: i16,
+    pub xy_exponent: i16,
+}
+
+#[no_mangle]
+pub extern "C" fn mr74_pitch_gain(target: &[i16], adaptive: &[i16]) -> PitchGainAnswer
+    ensures { λ r. ⌜ r ≡ pitch-gain-answer (pitch-gain (now (target .entry)) (now (adaptive .entry))) ⌝ }
+{
+    let answer = gain_pitch::pitch_gain(target, adaptive);
+    pitch_gain_answer(answer)
+}
+
+fn pitch_gain_answer(answer: Gained) -> PitchGainAnswer
+    ensures { λ r. ⌜ r ≡ pitch-gain-answer (told-gain answer) ⌝ }
+{
+    match answer {
+        Gained::Gain(gain) => PitchGainAnswer {
+            number: 0,
+            magnitude: 0,
+            gain_q14: gain.gain_q14,
+            yy: gain.yy,
+            yy_exponent: gain.yy_exponent,
+            xy: gain.xy,
+            xy_exponent: gain.xy_exponent,
+        },
+        Gained::Refused(refusal) => {
+            let detail = refusal.detail();
+            PitchGainAnswer {
+                number: refusal.number(),
+                magnitude: detail.magnitude,
+                gain_q14: 0,
+                yy: 0,
+                yy_exponent: 0,
+                xy: 0,
+                xy_exponent: 0,
+            }
+        }
+    }
+}
+
+#[repr(C)]
+pub struct GainAnswer {
+    pub number: u8,
+    pub negative: bool,
+    pub magnitude: u64,
+    pub index: u16,
+    pub pitch_q14: i16,
+    pub correction_q12: i16,
+    pub energy_q10: i16,
+}
+
+#[no_mangle]
+pub extern "C" fn mr74_quantize(
+    target: &[i16],
+    adaptive: &[i16],
+    filtered_innovation_q12: &[i16],
+    exponent: i16,
+    fraction: u16,
+    limit: u8,
+) -> GainAnswer
+    ensures { λ r. ⌜ r ≡ gain-answer (quantize (now (target .entry)) (now (adaptive .entry)) (now («filtered_innovation_q12» .entry)) exponent fraction limit) ⌝ }
+{
+    let answer = gain::quantize(
+        target,
+        adaptive,
+        filtered_innovation_q12,
+        exponent,
+        fraction,
+        limit,
+    );
+    gain_answer(answer)
+}
+
+fn gain_answer(answer: Quantized) -> GainAnswer
+    ensures { λ r. ⌜ r ≡ gain-answer (told-row answer) ⌝ }
+{
+    match answer {
+        Quantized::Row(chosen) => {
+            let row = chosen.row;
+            GainAnswer {
+                number: 0,
+                negative: false,
+                magnitude: 0,
+                index: chosen.index,
+                pitch_q14: row.pitch_q14,
+                correction_q12: row.correction_q12,
+                energy_q10: row.energy_q10,
+            }
+        }
+        Quantized::Refused(refusal) => {
+            let detail = refusal.detail();
+            GainAnswer {
+                number: refusal.number(),
+                negative: detail.negative,
+                magnitude: detail.magnitude,
+                index: 0,
+                pitch_q14: 0,
+                correction_q12: 0,
+                energy_q10: 0,
             }
         }
     }

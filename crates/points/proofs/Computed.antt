@@ -8,6 +8,8 @@ use Rattle.logarithm.specs.Opens.{logarithm-opens}
 use Rattle.open_loop.specs.Opens.{open-loop-opens}
 use Rattle.pitch_search.specs.Opens.{search-opens}
 use Rattle.codebook_search.specs.Opens.{pulse-opens}
+use Rattle.gain_pitch.specs.Opens.{pitch-gain-opens}
+use Rattle.gain.specs.Opens.{gain-opens}
 use Rattle.points.specs.Answer.{powerOfTwo, answer}
 use Rattle.points.specs.Table.{Point, Holds, points, Points}
 
@@ -62,6 +64,18 @@ sharpened-21 : Holds (point 11)
 unfolding points answer pulse-opens
 sharpened-21 = refl
 
+line-7 : Holds (point 12)
+unfolding points answer gain-opens
+line-7 = refl
+
+line-7-resonance : Holds (point 13)
+unfolding points answer gain-opens
+line-7-resonance = refl
+
+gain-of-zeros : Holds (point 14)
+unfolding points answer pitch-gain-opens
+gain-of-zeros = refl
+
 pub computed : Points
 unfolding Points
-computed = (pow2-14, (index-of-85, (index-0, (index-196, (index-255, (after-144, (after-20, (line-2, (line-3, (line-4, (line-6, (sharpened-21, tt))))))))))))
+computed = (pow2-14, (index-of-85, (index-0, (index-196, (index-255, (after-144, (after-20, (line-2, (line-3, (line-4, (line-6, (sharpened-21, (line-7, (line-7-resonance, (gain-of-zeros, tt)))))))))))))))

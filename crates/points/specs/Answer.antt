@@ -16,6 +16,8 @@ use Rattle.pitch_search.specs.Searches.{fresh-search, Pitch-fr}
 use Rattle.refusal.specs.Checks.{Outcome}
 use Rattle.codebook_search.specs.declared.PulseWords.{PulseWords}
 use Rattle.codebook_search.specs.Pulses.{Lists, lent, pulses}
+use Rattle.gain_pitch.specs.Gains.{pitch-gain}
+use Rattle.gain.specs.Rows.{quantize}
 
 pub data Question : Type 0 where
   -- `pow2`: exponent and fraction
@@ -31,6 +33,10 @@ pub data Question : Type 0 where
   -- a pulse search of target and impulse, with a lag and a gain: its two words; and words of its innovation, at these places
   pulseWords : List ℤ → List ℤ → ℕ → ℤ → Question
   innovationAt : List ℕ → List ℤ → List ℤ → ℕ → ℤ → Question
+  -- the pitch gain of target and adaptive words
+  pitchGain : List ℤ → List ℤ → Question
+  -- the gain row of target, adaptive words and filtered innovation, with a predicted exponent and fraction and a limit choice
+  gainRow : List ℤ → List ℤ → List ℤ → ℤ → ℕ → ℕ → Question
 
 abbrev pub lag-numbers : PitchLag → List ℤ
 lag-numbers l = pos (l .samples) ∷ thirds (l .fraction) ∷ []
@@ -54,3 +60,6 @@ answer (pitchAfter ns exc target hs first second n) =
     put (λ p. pos (p .index) ∷ lag-numbers (p .lag)) (Pitch-fr (searched-after ns exc target hs first second fresh-search) exc target hs first second n .answer)
 answer (pulseWords target hs lag gain) = put (λ w. pos (w .positions) ∷ pos (w .signs) ∷ []) (pulse-search target hs lag gain .answer)
 answer (innovationAt places target hs lag gain) = put (λ w. map (at (pulse-search target hs lag gain .after .innovation)) places) (pulse-search target hs lag gain .answer)
+answer (pitchGain target adaptive) = put (λ g. g .«gain_q14» ∷ []) (pitch-gain target adaptive)
+answer (gainRow target adaptive filtered exponent fraction limit) =
+    put (λ q. pos (q .index) ∷ q .row .«pitch_q14» ∷ q .row .«correction_q12» ∷ []) (quantize target adaptive filtered exponent fraction limit)

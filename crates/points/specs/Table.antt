@@ -6,12 +6,16 @@ use lib.IntN.{ℤ, pos, negsuc}
 use lib.ListN.{replicate}
 use Rattle.refusal.specs.Refused.{Told, values}
 use Rattle.pitch.specs.declared.Fraction.the-variants.{Zero}
-use Rattle.points.specs.Answer.{Question, powerOfTwo, absoluteReading, relativeReading, absoluteIndex, openLoop, pitchAfter, pulseWords, innovationAt, answer}
+use Rattle.points.specs.Answer.{Question, powerOfTwo, absoluteReading, relativeReading, absoluteIndex, openLoop, pitchAfter, pulseWords, innovationAt, pitchGain, gainRow, answer}
 
 -- a question and what 01 says of it
 pub record Point : Type 0 where
   pub asked : Question
   pub told : Told (List ℤ)
+
+-- 'gain' with all samples 0 and the predicted pair 0, 0
+abbrev pub silent-gain : ℕ → Question
+silent-gain limit = gainRow (replicate 40 (pos 0)) (replicate 40 (pos 0)) (replicate 40 (pos 0)) (pos 0) 0 limit
 
 -- '2 pitch' with all samples 0 and the open-loop lags 80, 80, after such searches of other subframes
 abbrev pub silent-pitch : List ℕ → ℕ → Question
@@ -35,6 +39,11 @@ points =
     ∷ record { asked = pulseWords (replicate 40 (pos 0)) (replicate 40 (pos 0)) 40 (pos 0); told = values (pos 6 ∷ pos 15 ∷ []) }
     -- 'line 6 with lag 20, gain 16384: innovation 8190 at 21, 22, 23'
     ∷ record { asked = innovationAt (21 ∷ 22 ∷ 23 ∷ []) (replicate 40 (pos 0)) (replicate 40 (pos 0)) 20 (pos 16384); told = values (pos 8190 ∷ pos 8190 ∷ pos 8190 ∷ []) }
+    -- line 7, and 'with the resonance limit gives row 93'
+    ∷ record { asked = silent-gain 0; told = values (pos 103 ∷ pos 16222 ∷ pos 5448 ∷ []) }
+    ∷ record { asked = silent-gain 1; told = values (pos 93 ∷ pos 15387 ∷ pos 9741 ∷ []) }
+    -- 'pitch gain of two zero lists 16384'
+    ∷ record { asked = pitchGain (replicate 40 (pos 0)) (replicate 40 (pos 0)); told = values (pos 16384 ∷ []) }
     ∷ []
 
 -- the definition answers so

@@ -3,8 +3,9 @@ use mathlib.Core.Bool.{Bool, cond, _&&_}
 use mathlib.Core.List.{List, [], _∷_}
 use Prim.Native.Nat.{ℕ}
 use lib.Dec.{leb, eqb}
-use lib.IntN.{ℤ, pos}
+use lib.IntN.{ℤ, pos, negsuc}
 use lib.ListN.{length}
+use lib.Signed.{leZ}
 use Rattle.refusal.specs.Refused.{Told, refused}
 
 -- one check: whether it passes, and the number and detail of its refusal
@@ -39,6 +40,10 @@ length-is n xs = record { passes = eqb (length xs) n; number = 1; detail = pos (
 abbrev pub known-subframe : ℕ → Check
 known-subframe n = record { passes = within 1 4 n; number = 2; detail = pos n }
 
+-- and a limit choice 0 or 1
+abbrev pub known-limit : ℕ → Check
+known-limit n = record { passes = leb n 1; number = 2; detail = pos n }
+
 -- number 3: an open-loop lag is 20 to 143
 abbrev pub open-loop-lag : ℕ → Check
 open-loop-lag n = record { passes = within 20 143 n; number = 3; detail = pos n }
@@ -50,6 +55,14 @@ in-order expected n = record { passes = eqb n expected; number = 4; detail = pos
 -- number 6: the pulse stage's lag is 19 to 144
 abbrev pub pulse-lag : ℕ → Check
 pulse-lag n = record { passes = within 19 144 n; number = 6; detail = pos n }
+
+-- number 7: a predicted exponent is -128 to 127
+abbrev pub predicted-exponent : ℤ → Check
+predicted-exponent e = record { passes = leZ (negsuc 127) e && leZ e (pos 127); number = 7; detail = e }
+
+-- and its fraction at most 32767
+abbrev pub predicted-fraction : ℕ → Check
+predicted-fraction n = record { passes = leb n 32767; number = 7; detail = pos n }
 
 -- number 8: a position word is at most 8191
 abbrev pub position-word : ℕ → Check

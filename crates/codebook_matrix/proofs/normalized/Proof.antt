@@ -27,8 +27,8 @@ returns c =
     let t = rw (got w16 (h .high .ok) (h .high .ensures), got w32 (e .energy .ok) (e .energy .ensures)) at (s .if1 .taken) in
     rw (t, c .scaled .ensures, got w16 (g .gain .ok) (g .gain .ensures), got w32 (e .energy .ok) (e .energy .ensures))
 
-halved-requires : tie.Need-halved-requires
-halved-requires c κs = search needs
+shifted40-requires : tie.Need-shifted40-requires
+shifted40-requires c κs = search needs
 
 returns-2 : tie.Need-returns-2
 unfolding normalised
@@ -37,7 +37,7 @@ returns-2 c =
     let h = s .before in
     let e = h .before in
     let t = rw (got w16 (h .high .ok) (h .high .ensures), got w32 (e .energy .ok) (e .energy .ensures)) at (s .if1 .left) in
-    rw (t, c .halved .ensures)
+    rw (t, c .shifted40 .ensures)
 
 pub normalized-spec : {M : Type 1} → statement M
 normalized-spec =
@@ -48,5 +48,5 @@ normalized-spec =
     gain-requires
     scaled-requires
     returns
-    halved-requires
+    shifted40-requires
     returns-2)

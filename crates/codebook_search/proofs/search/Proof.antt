@@ -3,7 +3,9 @@ use Rattle.codebook_search.proofs.search.Statement.{statement}
 use Rattle.codebook_search.proofs.search.Tie as tie
 use borrow.Author.Tests.{eq-eqb, ne-eqb, le-leb, lt-leb}
 use Rattle.codebook_search.specs.Pulses.{code-4i40-17bits, accepted, pulses}
-use mathlib.Core.Path.{_≡_}
+use mathlib.Core.Path.{_≡_, refl}
+use lib.IntN.{pos}
+use lib.ListN.{replicate}
 use Rattle.fixed.proofs.Lists.{copied-whole}
 use Rattle.codebook_search.proofs.Lengths.{innovation-length, filtered-length, impulse-length}
 
@@ -128,7 +130,7 @@ returns-8 c =
     let xs = i .target .now in
     let hs = i .impulse-q12 .now in
     let o = code-4i40-17bits xs hs (i .lag) (i .pitch-sharp-q14) in
-    let e : p .searched .result ≡ o = rw (p .searched .ensures, f2 .forty2 .ensures, f1 .forty .ensures) in
+    let e : p .searched .result ≡ o = rw (p .searched .ensures, f2 .forty2 .ensures, f1 .forty .ensures, copied-whole 40 xs (replicate 40 (pos 0)) (s .before .before .before .before .before .before .if1 .left) refl, copied-whole 40 hs (replicate 40 (pos 0)) (s .before .before .before .before .before .if2 .left) refl) in
     let w1 : k1 .copy .last .1 .0 ≡ o .«innovation_q13» = rw (k1 .copy .ensures, e) (copied-whole 40 (o .«innovation_q13») (i .innovation-q13 .now) (innovation-length xs hs (i .lag) (i .pitch-sharp-q14)) (s .before .before .before .before .if3 .left)) in
     let w2 : k2 .copy2 .last .1 .0 ≡ o .«filtered_q12» = rw (k2 .copy2 .ensures, e) (copied-whole 40 (o .«filtered_q12») (i .filtered-q12 .now) (filtered-length xs hs (i .lag) (i .pitch-sharp-q14)) (s .before .before .before .if4 .left)) in
     let w3 : k3 .copy3 .last .1 .0 ≡ o .«sharpened_impulse_q12» = rw (k3 .copy3 .ensures, e) (copied-whole 40 (o .«sharpened_impulse_q12») (i .sharpened-impulse-q12 .now) (impulse-length xs hs (i .lag) (i .pitch-sharp-q14) (s .before .before .before .before .before .if2 .left)) (s .before .before .if5 .left)) in

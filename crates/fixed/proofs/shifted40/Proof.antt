@@ -1,23 +1,23 @@
-use Rattle.codebook_matrix.proofs.halved.Statement.{statement}
-use Rattle.codebook_matrix.proofs.halved.Tie as tie
+use Rattle.fixed.proofs.shifted40.Statement.{statement}
+use Rattle.fixed.proofs.shifted40.Tie as tie
 use borrow.Author.Needs.{needs}
 use Prim.Native.Nat.{ℕ, _-_}
-use lib.IntN.{ℤ, negsuc}
+use lib.IntN.{ℤ}
 use mathlib.Core.Path.{_≡_, refl}
 use mir.Val.{ofZ, toZ}
+use mir.Facts.{toZ-ofZ}
 use native.Mathlib.Omega.{arith}
 use mir.Syntax.{w16}
 use Rattle.fixed.proofs.Bounds.{got}
 use Rattle.fixed.specs.Operators.{shl}
-use Rattle.fixed.specs.Lists.{at}
+use Rattle.fixed.specs.Lists.{at, shifted}
 use Rattle.fixed.proofs.Lists.{Filling, filling-more, filling-all}
-use Rattle.codebook_matrix.specs.Matrices.{halved}
 
 abbrev Inv-loop : tie.InvT-loop
-Inv-loop impulse words₀ i₀ words i = Filling (λ k. shl (at impulse k) (negsuc 0)) 40 i words
+Inv-loop x count words₀ i₀ words i = Filling (λ k. shl (at x k) (toZ w16 count)) 40 i words
 
 abbrev μ-loop : tie.MeasureT-loop
-μ-loop impulse words₀ i₀ words i = 40 - i
+μ-loop x count words₀ i₀ words i = 40 - i
 
 loop-holds : tie.Need-loop-holds Inv-loop μ-loop
 loop-holds c = (omega arith, refl, λ k l. absurd (omega arith))
@@ -47,21 +47,21 @@ loop-again : tie.Need-loop-again Inv-loop μ-loop
 loop-again c =
     let s = c .before .before .before in
     let a = s .before .args in
-    let f : ℕ → ℤ = λ k. shl (at (a .impulse .now) k) (negsuc 0) in
+    let f : ℕ → ℤ = λ k. shl (at (a .x .now) k) (toZ w16 (ofZ w16 (a .count))) in
     let i = s .loop .i in
     let v : ℤ = toZ w16 (ofZ w16 (c .shift-word .result)) in
     let e : v ≡ f i = rw (got w16 (c .shift-word .ok) (c .shift-word .ensures), got w16 (c .before .shift-word-arg .given) refl) in
     filling-more f 40 i (s .loop .words) v (omega arith) e (s .loop .inv)
 
 returns : tie.Need-returns Inv-loop μ-loop
-unfolding halved
+unfolding shifted
 returns c =
     let s = c .before in
     let a = s .before .args in
-    filling-all (λ k. shl (at (a .impulse .now) k) (negsuc 0)) 40 (s .loop .i) (s .loop .words) (omega arith) (s .loop .inv)
+    rw (toZ-ofZ (s .before .fits .count)) at (filling-all (λ k. shl (at (a .x .now) k) (toZ w16 (ofZ w16 (a .count)))) 40 (s .loop .i) (s .loop .words) (omega arith) (s .loop .inv))
 
-pub halved-spec : {M : Type 1} → statement M
-halved-spec =
+pub shifted40-spec : {M : Type 1} → statement M
+shifted40-spec =
     tie.close
     (tie.spec
     Inv-loop

@@ -1,0 +1,81 @@
+use mir.Syntax.{w16}
+use mir.Facts.{toZ-ofZ}
+use Rattle.fixed.proofs.Bounds.{got}
+use Rattle.gain.specs.Rows.{weights, nearest-row, Qua-gain}
+use borrow.Author.Needs.{needs}
+use Rattle.gain.proofs.qua_gain.Statement.{statement}
+use Rattle.gain.proofs.qua_gain.Tie as tie
+
+g-pitch-requires : tie.Need-g-pitch-requires
+g-pitch-requires c κs = search needs
+
+shifted40-requires : tie.Need-shifted40-requires
+shifted40-requires c κs = search needs
+
+sub16-requires : tie.Need-sub16-requires
+sub16-requires c κs = search needs
+
+coefficients-requires : tie.Need-coefficients-requires
+coefficients-requires c κs = search needs
+
+pitches-requires : tie.Need-pitches-requires
+pitches-requires c κs = search needs
+
+corrections-requires : tie.Need-corrections-requires
+corrections-requires c κs = search needs
+
+gcode0-requires : tie.Need-gcode0-requires
+gcode0-requires c κs = search needs
+
+distances-requires : tie.Need-distances-requires
+distances-requires c κs = search needs
+
+nearest-requires : tie.Need-nearest-requires
+nearest-requires c κs = search needs
+
+cast-index : tie.Need-cast-index
+cast-index c = search needs
+
+row-requires : tie.Need-row-requires
+row-requires c κs = search needs
+
+returns : tie.Need-returns
+unfolding Qua-gain weights nearest-row
+returns c =
+    let n = c .before in
+    let d = n .before .before .before in
+    let g = d .before in
+    let k = g .before .before .before .before .before .before in
+    let s = k .before .before in
+    let h = s .before in
+    let y = h .before in
+    let b = y .before in
+    rw (
+      c .row .ensures,
+      n .nearest .ensures .0,
+      d .distances .ensures,
+      k .coefficients .ensures,
+      y .g-pitch .ensures,
+      h .shifted40 .ensures,
+      got w16 (s .sub16 .ok) (s .sub16 .ensures),
+      got w16 (g .gcode0 .ok) (g .gcode0 .ensures),
+      toZ-ofZ (b .fits .exponent),
+      toZ-ofZ (b .fits .limit-q14),
+    )
+
+pub qua-gain-spec : {M : Type 1} → statement M
+qua-gain-spec =
+    tie.close
+    (tie.spec
+    g-pitch-requires
+    shifted40-requires
+    sub16-requires
+    coefficients-requires
+    pitches-requires
+    corrections-requires
+    gcode0-requires
+    distances-requires
+    nearest-requires
+    cast-index
+    row-requires
+    returns)

@@ -1,0 +1,3 @@
+-- What the contracts of `gain_pitch` cite.
+pub mod Gains
+pub mod Opens

@@ -1,0 +1,115 @@
+// The pitch gain, TS 26.073 G_pitch, from gain/quantization.rs: the gain, and the normalised energy and correlation from which the gain row is chosen.
+use refusal::Refusal;
+ghost use mathlib.Core.Path.{_≡_};
+ghost use Rattle.gain_pitch.specs.Gains.{flagged-sum, normalized, scalar-product, gain, coefficients, G-pitch, told-gain, pitch-gain};
+
+const SUBFRAME_SAMPLES: usize = 40;
+
+const MAX_PITCH_GAIN_Q14: i16 = 19661;
+
+const MIN_POSITIVE_CORRELATION: i16 = 4;
+
+const CORRELATION_EXPONENT: i16 = 15;
+
+// The standard's g_coeff beside the gain: each number is a word by two to its exponent.
+pub struct PitchGain {
+    pub gain_q14: i16,
+    pub yy: i16,
+    pub yy_exponent: i16,
+    pub xy: i16,
+    pub xy_exponent: i16,
+}
+
+pub enum Gained {
+    Gain(PitchGain),
+    Refused(Refusal),
+}
+
+pub fn pitch_gain(target: &[i16], adaptive: &[i16]) -> Gained
+    ensures { λ r. ⌜ told-gain r ≡ pitch-gain (now (target .entry)) (now (adaptive .entry)) ⌝ }
+{
+    if target.len() != SUBFRAME_SAMPLES {
+        return Gained::Refused(Refusal::Length(target.len()));
+    }
+    if adaptive.len() != SUBFRAME_SAMPLES {
+        return Gained::Refused(Refusal::Length(adaptive.len()));
+    }
+    Gained::Gain(g_pitch(&fixed::forty(target), &fixed::forty(adaptive)))
+}
+
+// A sum that overflowed is made anew with a quarter of the adaptive words.
+pub fn g_pitch(target: &[i16; 40], adaptive: &[i16; 40]) -> PitchGain
+    ensures { λ r. ⌜ r ≡ G-pitch (now (target .entry)) (now (adaptive .entry)) ⌝ }
+{
+    let quarter = fixed::shifted40(adaptive, -2);
+    let yy = scalar_product(adaptive, adaptive, &quarter, &quarter, 4);
+    let xy = scalar_product(target, adaptive, target, &quarter, 2);
+    PitchGain {
+        gain_q14: gain(xy, yy),
+        yy: yy.word,
+        yy_exponent: fixed::sub16(CORRELATION_EXPONENT, yy.exponent),
+        xy: xy.word,
+        xy_exponent: fixed::sub16(CORRELATION_EXPONENT, xy.exponent),
+    }
+}
+
+// A long with its highest bit brought up, as a word, and by how many places.
+struct ScaledWord {
+    word: i16,
+    exponent: i16,
+}
+
+fn gain(xy: ScaledWord, yy: ScaledWord) -> i16
+    ensures { λ r. ⌜ r ≡ gain xy yy ⌝ }
+{
+    if xy.word < MIN_POSITIVE_CORRELATION {
+        return 0;
+    }
+    let ratio = fixed::divide(fixed::shift_word(xy.word, -1), yy.word);
+    let gain = fixed::shift_word(ratio, fixed::sub16(yy.exponent, xy.exponent));
+    if MAX_PITCH_GAIN_Q14 < gain {
+        return MAX_PITCH_GAIN_Q14;
+    }
+    gain
+}
+
+// The sum of the first two lists, or, where it overflowed, that of the other two with its exponent lowered.
+fn scalar_product(
+    left: &[i16; 40],
+    right: &[i16; 40],
+    scaled_left: &[i16; 40],
+    scaled_right: &[i16; 40],
+    lowered: i16,
+) -> ScaledWord
+    ensures { λ r. ⌜ r ≡ scalar-product (now (left .entry)) (now (right .entry)) (now («scaled_left» .entry)) (now («scaled_right» .entry)) lowered ⌝ }
+{
+    let sum = dot(left, right);
+    if sum.overflow {
+        return normalized(dot(scaled_left, scaled_right).value, lowered);
+    }
+    normalized(sum.value, 0)
+}
+
+fn normalized(sum: i32, lowered: i16) -> ScaledWord
+    ensures { λ r. ⌜ r ≡ normalized sum lowered ⌝ }
+{
+    let places = fixed::normalize(sum);
+    ScaledWord {
+        word: fixed::rounded(fixed::shift(sum, places)),
+        exponent: fixed::sub16(places, lowered),
+    }
+}
+
+// The sum of 40 doubled products from 1 on, and whether a step of it was clipped.
+pub fn dot(left: &[i16; 40], right: &[i16; 40]) -> fixed::Flagged
+    ensures { λ r. ⌜ r ≡ flagged-sum (now (left .entry)) (now (right .entry)) 40 ⌝ }
+{
+    let mut value: i32 = 1;
+    let mut overflow = false;
+    for i in 0..40 {
+        let step = fixed::mac_flagged(value, left[i], right[i]);
+        value = step.value;
+        overflow = overflow | step.overflow;
+    }
+    fixed::Flagged { value, overflow }
+}
