@@ -32,9 +32,14 @@ impl Sum {
         self.clips_above || self.clips_below
     }
 
+    /// The sum that is clipped only at its end.
+    pub fn clipped_late(&self) -> i32 {
+        clip32(self.exact)
+    }
+
     /// Whether clipping only at the end would give another sum.
     pub fn clips_early(&self) -> bool {
-        self.clipped != clip32(self.exact)
+        self.clipped != self.clipped_late()
     }
 }
 

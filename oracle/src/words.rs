@@ -111,6 +111,38 @@ pub fn mixed<const N: usize>(random: &mut Random) -> [i16; N] {
     }
 }
 
+/// Words at random places whose squares have this sum.
+pub fn with_squares(random: &mut Random, mut squares: u64) -> [i16; SUBFRAME] {
+    // So many of the words are free; from the rest the greatest square is taken away each time.
+    let free = random.below(SUBFRAME as u64 - 15);
+    let mut words = Vec::new();
+    for _ in 0..free {
+        let most = (2 * squares / (free + 1)).isqrt();
+        let word = random.below(most.min(i16::MAX as u64) + 1);
+        squares -= word * word;
+        words.push(word as i16);
+    }
+    while squares > 0 {
+        let word = squares.isqrt().min(i16::MAX as u64);
+        squares -= word * word;
+        words.push(word as i16);
+    }
+    words.resize(SUBFRAME, 0);
+    let decays = random.below(2) == 0;
+    if decays {
+        words.sort_by(|a, b| b.cmp(a));
+    }
+    for place in 0..SUBFRAME {
+        if !decays {
+            words.swap(place, random.below(SUBFRAME as u64) as usize);
+        }
+        if random.below(2) == 0 {
+            words[place] = -words[place];
+        }
+    }
+    words.try_into().expect("a subframe")
+}
+
 /// Each word becomes the mean of itself and the next.
 pub fn smooth(words: &mut [i16]) {
     for place in 1..words.len() {

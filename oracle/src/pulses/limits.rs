@@ -10,7 +10,7 @@ use super::{
 use crate::{
     codec::mr74::codebook::search::sharpen,
     inputs::Random,
-    words::{SUBFRAME, extreme, mixed, quiet, uniform},
+    words::{SUBFRAME, extreme, mixed, quiet, uniform, with_squares},
 };
 
 /// A gain whose double is -32768, so that the sharpening takes words away as they are.
@@ -116,38 +116,6 @@ pub fn energy_call(random: &mut Random) -> Call {
         lag: lag(random).max(if sharpens { 19 } else { 40 }),
         gain: if sharpens { 0 } else { gain(random) },
     }
-}
-
-/// Words at random places whose squares have this sum.
-fn with_squares(random: &mut Random, mut squares: u64) -> [i16; SUBFRAME] {
-    // So many of the words are free; from the rest the greatest square is taken away each time.
-    let free = random.below(SUBFRAME as u64 - 15);
-    let mut words = Vec::new();
-    for _ in 0..free {
-        let most = (2 * squares / (free + 1)).isqrt();
-        let word = random.below(most.min(i16::MAX as u64) + 1);
-        squares -= word * word;
-        words.push(word as i16);
-    }
-    while squares > 0 {
-        let word = squares.isqrt().min(i16::MAX as u64);
-        squares -= word * word;
-        words.push(word as i16);
-    }
-    words.resize(SUBFRAME, 0);
-    let decays = random.below(2) == 0;
-    if decays {
-        words.sort_by(|a, b| b.cmp(a));
-    }
-    for place in 0..SUBFRAME {
-        if !decays {
-            words.swap(place, random.below(SUBFRAME as u64) as usize);
-        }
-        if random.below(2) == 0 {
-            words[place] = -words[place];
-        }
-    }
-    words.try_into().expect("a subframe")
 }
 
 /// A total that is a power of two, or a few less or more.
