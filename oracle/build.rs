@@ -83,10 +83,20 @@ const REPLACED: &[(&str, &str, &str, usize)] = &[
     ("energy.rs", "fn rounded(", "pub fn rounded(", 1),
     ("energy.rs", "fn shift(", "pub fn shift(", 1),
     ("energy.rs", "pub(super) fn inverse_sqrt(", "pub fn inverse_sqrt(", 1),
+    ("gain.rs", "    exponent: i16,", "    pub exponent: i16,", 1),
+    ("gain.rs", "    fraction: u16,", "    pub fraction: u16,", 1),
+    ("gain.rs", "const TABLE:", "pub const TABLE:", 1),
     ("gain.rs", "fn mac(", "pub fn mac(", 1),
     ("gain.rs", "fn mult(", "pub fn mult(", 1),
     ("gain.rs", "fn shift_left(", "pub fn shift_left(", 1),
+    ("gain.rs", "struct Prediction {", "pub struct Prediction {", 1),
+    ("gain/quantization.rs", "    correlations: [i16; 4],\n}", "    pub correlations: [i16; 4],\n}", 1),
+    ("gain/quantization.rs", "const CODE_EXPONENT_BIAS:", "pub const CODE_EXPONENT_BIAS:", 1),
+    ("gain/quantization.rs", "const GAIN_TERMS:", "pub const GAIN_TERMS:", 1),
     ("gain/quantization.rs", "const Q15_SHIFT:", "pub const Q15_SHIFT:", 1),
+    ("gain/quantization.rs", "const WORD_SHIFT:", "pub const WORD_SHIFT:", 1),
+    ("gain/quantization.rs", "fn dot(", "pub fn dot(", 1),
+    ("gain/quantization.rs", "fn energy_coefficients(", "pub fn energy_coefficients(", 1),
     ("gain/quantization.rs", "fn fractional(", "pub fn fractional(", 1),
     ("gain/quantization.rs", "fn multiply_word(", "pub fn multiply_word(", 1),
     ("gain/quantization.rs", "fn normalize(", "pub fn normalize(", 1),
@@ -150,6 +160,38 @@ const EXPRESSIONS: &[Expression] = &[
         function: "pub fn pitch_gain_ratio(xy: i16, yy: i16) -> i16 {
     use codec::mr74::gain::quantization::Q15_SHIFT;
     EXPRESSION
+}
+",
+    },
+    // All of `quantize` before it decodes. Its `self.decoder` is one that predicts the pair which it
+    // is given, so the text stays as it is.
+    Expression {
+        file: "gain/quantization.rs",
+        start: ") -> QuantizedGain {",
+        end: "let gains = self",
+        occurrences: 1,
+        function: "pub struct PairQuantizer {
+    pub decoder: PairDecoder,
+}
+pub struct PairDecoder(pub codec::mr74::gain::Prediction);
+impl PairDecoder {
+    fn predict(&self, (): ()) -> codec::mr74::gain::Prediction {
+        self.0
+    }
+}
+impl PairQuantizer {
+    pub fn quantize(
+        &self,
+        target: &[i16; 40],
+        adaptive: &[i16; 40],
+        filtered_innovation_q12: &[i16; 40],
+        limit: codec::mr74::gain::quantization::GainLimit,
+    ) -> u16 {
+        use codec::mr74::{gain::{TABLE, quantization::*}, logarithm};
+        let innovation_q13 = ();
+        EXPRESSION
+        index
+    }
 }
 ",
     },

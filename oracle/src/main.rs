@@ -12,6 +12,7 @@ mod compare;
 mod counts;
 mod feed;
 mod filtering;
+mod gain;
 mod inputs;
 mod lent;
 mod lists;
@@ -74,6 +75,7 @@ fn compare_functions(names: &[&str]) -> Result<ExitCode, String> {
     functions.extend(open_loop::functions());
     functions.extend(filtering::functions());
     functions.extend(pulses::functions());
+    functions.extend(gain::functions());
     for name in names {
         if !functions.iter().any(|function| function.name == *name) {
             let mut known: Vec<_> = functions.iter().map(|function| function.name).collect();
@@ -105,11 +107,12 @@ fn compare_functions(names: &[&str]) -> Result<ExitCode, String> {
 /// Writes each replay program's sample to the program's folder below this one.
 fn record_samples(folder: &str) -> Result<ExitCode, String> {
     type Write = fn(&Path) -> io::Result<usize>;
-    let samples: [(&str, Write); 4] = [
+    let samples: [(&str, Write); 5] = [
         ("replay", record::write),
         ("replay_open_loop", open_loop::record::write),
         ("replay_filtering", filtering::record::write),
         ("replay_pulses", pulses::record::write),
+        ("replay_gain", gain::record::write),
     ];
     for (program, write) in samples {
         let folder = Path::new(folder).join(program);

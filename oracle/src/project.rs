@@ -2,6 +2,10 @@
 //!
 //! Nothing checks these declarations against the library's source; they repeat its interface.
 
+mod gain;
+
+pub use gain::*;
+
 /// A 32-bit number as its high word and its 15 low bits.
 #[repr(C)]
 #[derive(Debug, Clone, Copy, PartialEq, Eq)]

@@ -2,8 +2,9 @@
 //! that no function of it gives.
 
 // Declares `codec`, and as functions the division inside `pitch_gain`, `pitch_gain_ratio`, the
-// sums inside `normalized_correlation`, `energy40` and `dot40`, and the steps inside the
-// detector's `push`, `open_loop_scaled` and `open_loop_correlation`.
+// gain row's `quantize` with a given prediction, of `PairQuantizer`, the sums inside
+// `normalized_correlation`, `energy40` and `dot40`, and the steps inside the detector's `push`,
+// `open_loop_scaled` and `open_loop_correlation`.
 include!(concat!(env!("OUT_DIR"), "/published.rs"));
 
 use codec::mr74::{codebook::search::product, logarithm, pitch};

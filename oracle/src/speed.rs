@@ -1,5 +1,7 @@
 //! The time of a call, as a ratio to the published Rust in the same run.
 
+mod gain;
+
 use crate::{
     codec::mr74::{
         codebook::{Codebook, search::SearchResult},
@@ -79,6 +81,7 @@ pub fn report() {
     report_pushes();
     report_filtering();
     report_pulses();
+    gain::report();
 }
 
 fn report_operators() {
