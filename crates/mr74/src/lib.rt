@@ -14,7 +14,7 @@ use pitch::PitchLag;
 use pitch::Reader;
 use pitch::Reading;
 use pitch::Subframe;
-use pitch_search::Convolution;
+use pitch_convolution::Convolution;
 use pitch_search::Found;
 use pitch_search::Search;
 use refusal::Refusal;
@@ -26,7 +26,7 @@ ghost use Rattle.refusal.specs.Refused.{refused, number, detail, turned-down};
 ghost use Rattle.encoder_filtering.specs.Subframes.{told, lists, residual, prepare};
 ghost use Rattle.pitch.specs.Kinds.{told-lag};
 ghost use Rattle.pitch.specs.Readers.{read};
-ghost use Rattle.pitch_search.specs.Filters.{convolve};
+ghost use Rattle.pitch_convolution.specs.Filters.{convolve};
 ghost use Rattle.pitch_search.specs.Searches.{Pitch-fr};
 ghost use Rattle.codebook.specs.Readers.{told-places, decode};
 ghost use Rattle.codebook_search.specs.Pulses.{told-words, lent, pulses};
@@ -173,7 +173,7 @@ pub extern "C" fn mr74_convolve(
     ensures { λ r. ⌜ (r ≡ length-answer (convolve (now (input .entry)) (now («impulse_q12» .entry)) (now (output .entry)) .answer))
         × (now (output .exit) ≡ convolve (now (input .entry)) (now («impulse_q12» .entry)) (now (output .entry)) .after) ⌝ }
 {
-    match pitch_search::convolve(input, impulse_q12, output) {
+    match pitch_convolution::convolve(input, impulse_q12, output) {
         Convolution::Written => LengthAnswer {
             number: 0,
             magnitude: 0,

@@ -1,3 +1,2 @@
 -- The laws that belong to no one function.
-pub mod Choosings
-pub mod Filterings
+pub mod Sendings

@@ -16,8 +16,8 @@ use Rattle.pitch_search.specs.declared.SearchedPitch.{SearchedPitch}
 use Rattle.pitch_search.specs.declared.Found.{Found}
 use Rattle.pitch_search.specs.declared.Found.the-variants.{Pitch, Refused}
 use Rattle.pitch_search.specs.declared.Search.{Search}
-use Rattle.pitch_search.specs.Correlations.{correlations}
-use Rattle.pitch_search.specs.Choices.{chosen}
+use Rattle.pitch_correlation.specs.Correlations.{correlations}
+use Rattle.pitch_choice.specs.Choices.{chosen}
 
 -- 'Fresh searcher and fresh reader: previous lag 40, expecting 1'
 abbrev pub fresh-search : Search

@@ -1,20 +1,20 @@
-use Rattle.pitch_search.specs.Searches.{pitch-in}
-use Rattle.fixed.proofs.Lists.{part-whole}
+use Prim.Native.Nat.{_+_, _-_}
+use native.Mathlib.Omega.{arith}
 use borrow.Author.Needs.{needs}
+use Rattle.pitch_correlation.proofs.Filterings.{norm-corr}
+use Rattle.pitch_choice.proofs.Choosings.{choose-in}
+use Rattle.pitch_search.specs.Searches.{span-of, pitch-in}
 use Rattle.pitch_search.proofs.pitch_in.Statement.{statement}
 use Rattle.pitch_search.proofs.pitch_in.Tie as tie
 
 span-requires : tie.Need-span-requires
 span-requires c κs = search needs
 
-forty-requires : tie.Need-forty-requires
-forty-requires c κs = search needs
-
-forty-requires-2 : tie.Need-forty-requires-2
-forty-requires-2 c κs = search needs
-
 sub-normalized-correlation : tie.Need-sub-normalized-correlation
 sub-normalized-correlation c = search needs
+
+cast-normalized-correlation : tie.Need-cast-normalized-correlation
+cast-normalized-correlation c = search needs
 
 add-normalized-correlation : tie.Need-add-normalized-correlation
 add-normalized-correlation c = search needs
@@ -31,24 +31,24 @@ normalized-correlation-requires c κs = search needs
 absolute-requires : tie.Need-absolute-requires
 absolute-requires c κs = search needs
 
-chosen-requires : tie.Need-chosen-requires
-chosen-requires c κs = search needs
+choose-requires : tie.Need-choose-requires
+choose-requires c κs = search needs
 
 returns : tie.Need-returns
 unfolding pitch-in
 returns c =
     let n = c .before .before .before in
-    let f = n .before .before in
-    let s = f .before .before .before .before in
+    let s = n .before in
+    let p = s .before .pre in
+    let a = s .before .args in
+    let span = span-of (a .subframe) in
     rw (
-      c .chosen .ensures,
+      c .choose .ensures,
       c .before .before .absolute .ensures,
       n .normalized-correlation .ensures,
-      f .forty2 .ensures,
-      f .before .before .forty .ensures,
-      f .before .before .before .span .ensures,
-      part-whole 40 (s .args .target .now) (s .pre .1),
-      part-whole 40 (s .args .impulse .now) (s .pre .2),
+      s .span .ensures,
+      norm-corr _ _ _ (a .start - 4) (a .start + span + 4 + 1) (p .0) (p .1) (p .2) (omega arith) (omega (arith, p .4)),
+      choose-in _ _ _ _ (p .3) (p .4),
     )
 
 pub pitch-in-spec : {M : Type 1} → statement M
@@ -56,13 +56,12 @@ pitch-in-spec =
     tie.close
     (tie.spec
     span-requires
-    forty-requires
-    forty-requires-2
     sub-normalized-correlation
+    cast-normalized-correlation
     add-normalized-correlation
     add-normalized-correlation-2
     add-normalized-correlation-3
     normalized-correlation-requires
     absolute-requires
-    chosen-requires
+    choose-requires
     returns)

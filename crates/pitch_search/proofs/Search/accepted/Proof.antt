@@ -5,7 +5,7 @@ use native.Mathlib.Omega.{arith}
 use Rattle.pitch.specs.Kinds.{absolute}
 use Rattle.pitch.specs.Indexes.{index-of}
 use Rattle.pitch_search.specs.Searches.{start-of, pitch-in}
-use Rattle.pitch_search.proofs.Choosings.{start-low, start-high, sent-back, sent-fits}
+use Rattle.pitch_search.proofs.Sendings.{start-low, start-high, sent-back, sent-fits}
 use borrow.Author.Needs.{needs}
 use Rattle.pitch_search.proofs.Search.accepted.Statement.{statement}
 use Rattle.pitch_search.proofs.Search.accepted.Tie as tie
