@@ -177,6 +177,12 @@ fn cut(sum: i32, bias: i16) -> Coefficient
     }
 }
 
+fn energy(words: &[i16; 40], bias: i16) -> Coefficient
+    ensures { λ r. ⌜ r ≡ cut (sum (now (words .entry)) (now (words .entry)) 40) bias ⌝ }
+{
+    cut(gain_pitch::square_sum(words).value, bias)
+}
+
 fn product(left: &[i16; 40], right: &[i16; 40], bias: i16) -> Coefficient
     ensures { λ r. ⌜ r ≡ cut (sum (now (left .entry)) (now (right .entry)) 40) bias ⌝ }
 {
@@ -210,7 +216,7 @@ fn coefficients(
 ) -> [i32; 5]
     ensures { λ r. ⌜ r ≡ coefficients (now (target .entry)) (now (adaptive .entry)) (now (innovation .entry)) gain code ⌝ }
 {
-    let zz = product(innovation, innovation, -3);
+    let zz = energy(innovation, -3);
     let xz = negated(product(target, innovation, 7));
     let yz = product(adaptive, innovation, 7);
     on_one_scale(

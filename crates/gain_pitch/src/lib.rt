@@ -1,7 +1,7 @@
 // The pitch gain, TS 26.073 G_pitch, from gain/quantization.rs: the gain, and the normalised energy and correlation from which the gain row is chosen.
 use refusal::Refusal;
 ghost use mathlib.Core.Path.{_≡_};
-ghost use Rattle.gain_pitch.specs.Gains.{flagged-sum, normalized, scalar-product, gain, coefficients, G-pitch, told-gain, pitch-gain};
+ghost use Rattle.gain_pitch.specs.Gains.{flagged-sum, normalized, energy, correlation, gain, G-pitch, told-gain, pitch-gain};
 
 const SUBFRAME_SAMPLES: usize = 40;
 
@@ -37,13 +37,11 @@ pub fn pitch_gain(target: &[i16], adaptive: &[i16]) -> Gained
     Gained::Gain(g_pitch(&fixed::forty(target), &fixed::forty(adaptive)))
 }
 
-// A sum that overflowed is made anew with a quarter of the adaptive words.
 pub fn g_pitch(target: &[i16; 40], adaptive: &[i16; 40]) -> PitchGain
     ensures { λ r. ⌜ r ≡ G-pitch (now (target .entry)) (now (adaptive .entry)) ⌝ }
 {
-    let quarter = fixed::shifted40(adaptive, -2);
-    let yy = scalar_product(adaptive, adaptive, &quarter, &quarter, 4);
-    let xy = scalar_product(target, adaptive, target, &quarter, 2);
+    let yy = energy(adaptive);
+    let xy = correlation(target, adaptive);
     PitchGain {
         gain_q14: gain(xy, yy),
         yy: yy.word,
@@ -73,19 +71,24 @@ fn gain(xy: ScaledWord, yy: ScaledWord) -> i16
     gain
 }
 
-// The sum of the first two lists, or, where it overflowed, that of the other two with its exponent lowered.
-fn scalar_product(
-    left: &[i16; 40],
-    right: &[i16; 40],
-    scaled_left: &[i16; 40],
-    scaled_right: &[i16; 40],
-    lowered: i16,
-) -> ScaledWord
-    ensures { λ r. ⌜ r ≡ scalar-product (now (left .entry)) (now (right .entry)) (now («scaled_left» .entry)) (now («scaled_right» .entry)) lowered ⌝ }
+// ---- A sum that overflowed is made anew with a quarter of the adaptive words, and its exponent lowered.
+
+fn energy(adaptive: &[i16; 40]) -> ScaledWord
+    ensures { λ r. ⌜ r ≡ energy (now (adaptive .entry)) ⌝ }
 {
-    let sum = dot(left, right);
+    let sum = square_sum(adaptive);
     if sum.overflow {
-        return normalized(dot(scaled_left, scaled_right).value, lowered);
+        return normalized(square_sum(&fixed::shifted40(adaptive, -2)).value, 4);
+    }
+    normalized(sum.value, 0)
+}
+
+fn correlation(target: &[i16; 40], adaptive: &[i16; 40]) -> ScaledWord
+    ensures { λ r. ⌜ r ≡ correlation (now (target .entry)) (now (adaptive .entry)) ⌝ }
+{
+    let sum = dot(target, adaptive);
+    if sum.overflow {
+        return normalized(dot(target, &fixed::shifted40(adaptive, -2)).value, 2);
     }
     normalized(sum.value, 0)
 }
@@ -100,7 +103,19 @@ fn normalized(sum: i32, lowered: i16) -> ScaledWord
     }
 }
 
-// The sum of 40 doubled products from 1 on, and whether a step of it was clipped.
+// ---- The sum of 40 doubled products from 1 on, and whether a step of it was clipped.
+
+// Of a list with itself: no term is negative, so one test of the whole tells.
+pub fn square_sum(words: &[i16; 40]) -> fixed::Flagged
+    ensures { λ r. ⌜ r ≡ flagged-sum (now (words .entry)) (now (words .entry)) 40 ⌝ }
+{
+    let energy = fixed::energy40(words);
+    fixed::Flagged {
+        value: fixed::add32(energy, 1),
+        overflow: 2147483646 < energy,
+    }
+}
+
 pub fn dot(left: &[i16; 40], right: &[i16; 40]) -> fixed::Flagged
     ensures { λ r. ⌜ r ≡ flagged-sum (now (left .entry)) (now (right .entry)) 40 ⌝ }
 {

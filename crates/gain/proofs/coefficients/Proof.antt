@@ -6,17 +6,17 @@ use borrow.Author.Needs.{needs}
 use Rattle.gain.proofs.coefficients.Statement.{statement}
 use Rattle.gain.proofs.coefficients.Tie as tie
 
+energy-requires : tie.Need-energy-requires
+energy-requires c κs = search needs
+
 product-requires : tie.Need-product-requires
 product-requires c κs = search needs
-
-product-requires-2 : tie.Need-product-requires-2
-product-requires-2 c κs = search needs
 
 negated-requires : tie.Need-negated-requires
 negated-requires c κs = search needs
 
-product-requires-3 : tie.Need-product-requires-3
-product-requires-3 c κs = search needs
+product-requires-2 : tie.Need-product-requires-2
+product-requires-2 c κs = search needs
 
 adaptive-energy-requires : tie.Need-adaptive-energy-requires
 adaptive-energy-requires c κs = search needs
@@ -75,14 +75,14 @@ returns c =
       r2 .raised2 .ensures,
       xy .adaptive-correlation .ensures,
       r3 .raised3 .ensures,
-      p1 .product .ensures,
+      p1 .energy .ensures,
       got w16 (a1 .add16 .ok) (a1 .add16 .ensures),
       got w16 (w .shift-word .ok) (w .shift-word .ensures),
       r4 .raised4 .ensures,
       n .negated .ensures,
-      p2 .product2 .ensures,
+      p2 .product .ensures,
       r5 .raised5 .ensures,
-      p3 .product3 .ensures,
+      p3 .product2 .ensures,
       got w16 (a2 .add162 .ok) (a2 .add162 .ensures),
       toZ-ofZ (p1 .before .fits .code),
     )
@@ -91,10 +91,10 @@ pub coefficients-spec : {M : Type 1} → statement M
 coefficients-spec =
     tie.close
     (tie.spec
+    energy-requires
     product-requires
-    product-requires-2
     negated-requires
-    product-requires-3
+    product-requires-2
     adaptive-energy-requires
     raised-requires
     adaptive-correlation-requires

@@ -6,14 +6,11 @@ use borrow.Author.Needs.{needs}
 use Rattle.gain_pitch.proofs.g_pitch.Statement.{statement}
 use Rattle.gain_pitch.proofs.g_pitch.Tie as tie
 
-shifted40-requires : tie.Need-shifted40-requires
-shifted40-requires c κs = search needs
+energy-requires : tie.Need-energy-requires
+energy-requires c κs = search needs
 
-scalar-product-requires : tie.Need-scalar-product-requires
-scalar-product-requires c κs = search needs
-
-scalar-product-requires-2 : tie.Need-scalar-product-requires-2
-scalar-product-requires-2 c κs = search needs
+correlation-requires : tie.Need-correlation-requires
+correlation-requires c κs = search needs
 
 gain-requires : tie.Need-gain-requires
 gain-requires c κs = search needs
@@ -30,9 +27,8 @@ returns c =
     let s2 = c .before .before in
     let s1 = s2 .before .before in
     let g = s1 .before .before in
-    let p2 = g .before in
-    let p1 = p2 .before .before in
-    let h = p1 .before .before .before in
+    let x = g .before in
+    let y = x .before in
     rw (
       got w16 (g .gain .ok) (g .gain .ensures),
       got w16 (c .before .struct-told3 .given .0 .1) refl,
@@ -41,18 +37,16 @@ returns c =
       got w16 (c .struct-told4 .given .0 .1) refl,
       got w16 (s2 .sub162 .ok) (s2 .sub162 .ensures),
       got w16 (s2 .before .struct-told2 .given .1 .0 .1) refl,
-      p2 .scalar-product2 .ensures,
-      p1 .scalar-product .ensures,
-      h .shifted40 .ensures,
+      x .correlation .ensures,
+      y .energy .ensures,
     )
 
 pub g-pitch-spec : {M : Type 1} → statement M
 g-pitch-spec =
     tie.close
     (tie.spec
-    shifted40-requires
-    scalar-product-requires
-    scalar-product-requires-2
+    energy-requires
+    correlation-requires
     gain-requires
     sub16-requires
     sub16-requires-2

@@ -1,0 +1,53 @@
+use mathlib.Core.Path.{sym, ap, _∙_}
+use mir.Syntax.{w32}
+use Rattle.fixed.specs.declared.Flagged.{Flagged}
+use Rattle.fixed.proofs.Bounds.{got}
+use Rattle.gain_pitch.specs.Gains.{flagged-sum, scalar-product}
+use borrow.Author.Needs.{needs}
+use Rattle.gain_pitch.proofs.energy.Statement.{statement}
+use Rattle.gain_pitch.proofs.energy.Tie as tie
+
+square-sum-requires : tie.Need-square-sum-requires
+square-sum-requires c κs = search needs
+
+shifted40-requires : tie.Need-shifted40-requires
+shifted40-requires c κs = search needs
+
+square-sum-requires-2 : tie.Need-square-sum-requires-2
+square-sum-requires-2 c κs = search needs
+
+normalized-requires : tie.Need-normalized-requires
+normalized-requires c κs = search needs
+
+returns : tie.Need-returns
+unfolding scalar-product flagged-sum
+returns c =
+    let d2 = c .before .before in
+    let h = d2 .before .before in
+    let i = h .before in
+    let d = i .before in
+    let o = sym (ap (λ (f : Flagged). f .overflow) (d .square-sum .ensures)) ∙ i .if1 .taken in
+    rw (o, c .normalized .ensures, got w32 (c .before .struct-told .given .0 .1) (ap (λ (f : Flagged). f .value) (d2 .square-sum2 .ensures)), h .shifted40 .ensures)
+
+normalized-requires-2 : tie.Need-normalized-requires-2
+normalized-requires-2 c κs = search needs
+
+returns-2 : tie.Need-returns-2
+unfolding scalar-product flagged-sum
+returns-2 c =
+    let i = c .before .before in
+    let d = i .before in
+    let o = sym (ap (λ (f : Flagged). f .overflow) (d .square-sum .ensures)) ∙ i .if1 .left in
+    rw (o, c .normalized2 .ensures, got w32 (c .before .struct-told2 .given .0 .1) (ap (λ (f : Flagged). f .value) (d .square-sum .ensures)))
+
+pub energy-spec : {M : Type 1} → statement M
+energy-spec =
+    tie.close
+    (tie.spec
+    square-sum-requires
+    shifted40-requires
+    square-sum-requires-2
+    normalized-requires
+    returns
+    normalized-requires-2
+    returns-2)
