@@ -12,9 +12,10 @@ mod refusals;
 mod rows;
 mod sources;
 mod ties;
+mod wished;
 
 pub use calls::Call;
-pub use sources::{full_scale_call, speech_call};
+pub use sources::{loud_call, speech_call};
 
 use crate::{
     compare::{Function, Line, in_threads},

@@ -3,7 +3,7 @@
 
 use super::{
     calls::Call,
-    sources::{fraction, limit, with_pair},
+    sources::{agreeing, fraction, limit, with_pair},
 };
 use crate::{
     inputs::Random,
@@ -76,14 +76,7 @@ pub fn target_of_sum(adaptive: &[i16; SUBFRAME], sum: i64) -> Option<[i16; SUBFR
 pub fn product_call(random: &mut Random) -> Call {
     let places = random.below(10) as u32;
     let mut adaptive: [i16; SUBFRAME] = quiet(random, places);
-    let words: [i16; SUBFRAME] = quiet(random, places);
-    let mut target = std::array::from_fn(|place| {
-        if (words[place] < 0) == (adaptive[place] < 0) {
-            -1 - words[place]
-        } else {
-            words[place]
-        }
-    });
+    let mut target = agreeing(quiet(random, places), &adaptive, |_| false);
     let place = random.below(SUBFRAME as u64) as usize;
     adaptive[place] = i16::MIN;
     target[place] = i16::MIN;
@@ -150,10 +143,9 @@ pub fn aligned_call(random: &mut Random) -> Call {
         };
         let second = 4.0 * zz - yz * yz / yy;
         let places = random.below(12) as i32;
-        let loudness = ((31 - places) as f64).exp2() / 80.0;
-        let loudness = loudness.sqrt();
+        let loudness = (2f64.powi(31 - places) / 80.0).sqrt();
         let louder = random.below(11) as i16 - 4;
-        let innovation_loudness = loudness * f64::from(louder).exp2();
+        let innovation_loudness = loudness * 2f64.powi(louder.into());
         let innovation = [yz / yy.sqrt(), second.sqrt()];
         if innovation_loudness < 20.0
             || innovation_loudness * (innovation[0].abs() + innovation[1]) > MOST

@@ -44,7 +44,7 @@ cases! {
     LateClipMatters => "answer that clipping the sums only at their end would change",
     ToZeroMatters => "answer that rounding the quarters toward zero would change",
     CutMatters => "answer that cutting in place of rounding would change",
-    SumZero => "target sum 0, of quarters",
+    SumZero => "target sum 0, of quarters: xy 0, gain 0",
     SumOne => "target sum 1",
     SumMinusOne => "target sum -1, normalized by 31 places",
     YyLeast => "yy 16384",
@@ -53,21 +53,21 @@ cases! {
     YyExponentLeast => "exponent -15 of yy",
     YyExponentGreatest => "exponent 19 of yy",
     XyLeast => "xy -32768",
-    XyNegative => "xy -16384",
-    XyPositive => "xy 16384",
+    XyNegativeEnd => "xy -16384",
+    XyPositiveEnd => "xy 16384",
     XyGreatest => "xy 32767",
     XyRoundingClip => "rounding of xy clipped",
     XyExponentLeast => "exponent -16 of xy",
     XyExponentGreatest => "exponent 17 of xy",
-    XyBelow => "xy below 4, gain 0",
-    XyAbove => "xy above 4",
-    OddXy => "xy above 4 whose half is cut",
+    XyNegative => "negative xy, gain 0",
+    XyPositive => "positive xy",
+    OddXy => "positive xy whose half is cut",
     RatioLeft => "ratio shifted left",
     RatioStays => "ratio not shifted",
     RatioRight => "ratio shifted right",
     RatioClip => "ratio clipped by its shift",
     RatioOut => "ratio shifted right by more than 15 places",
-    ZeroOfRatio => "gain 0 of an xy above 4",
+    ZeroOfRatio => "gain 0 of a positive xy",
     Below => "gain 19660",
     Most => "gain 19661 that is not held",
     FirstHeld => "gain held at 19661, one more before",
@@ -166,8 +166,8 @@ fn find_words(found: &mut Found<Case>, yy: &Correlation, xy: &Correlation) {
     found.case(Case::YyExponentLeast, yy.exponent() == -15);
     found.case(Case::YyExponentGreatest, yy.exponent() == 19);
     found.case(Case::XyLeast, xy.word == i16::MIN);
-    found.case(Case::XyNegative, xy.word == -16384);
-    found.case(Case::XyPositive, xy.word == 16384);
+    found.case(Case::XyNegativeEnd, xy.word == -16384);
+    found.case(Case::XyPositiveEnd, xy.word == 16384);
     found.case(Case::XyGreatest, xy.word == i16::MAX);
     found.case(Case::XyRoundingClip, clips(xy.shifted));
     found.case(Case::XyExponentLeast, xy.exponent() == -16);
@@ -176,11 +176,11 @@ fn find_words(found: &mut Found<Case>, yy: &Correlation, xy: &Correlation) {
 
 fn find_gain(found: &mut Found<Case>, correlations: &Correlations) {
     let Some((ratio, places)) = correlations.ratio() else {
-        return found.case(Case::XyBelow, true);
+        return found.case(Case::XyNegative, correlations.xy.word < 0);
     };
     let gain = correlations.gain().gain_q14;
     let exact = i64::from(ratio) << places.clamp(0, 40) >> (-places).clamp(0, 40);
-    found.case(Case::XyAbove, true);
+    found.case(Case::XyPositive, true);
     found.case(Case::OddXy, correlations.xy.word % 2 != 0);
     found.case(Case::RatioLeft, places > 0);
     found.case(Case::RatioStays, places == 0);

@@ -126,7 +126,6 @@ impl Inside {
             exponents[3] + code,
             exponents[4] + 1 + code,
         ];
-        let base = logarithm::pow2(14, call.fraction).expect("a fraction that was checked");
         let mut inside = Self {
             rule,
             adaptive,
@@ -137,8 +136,8 @@ impl Inside {
             distances: std::array::from_fn(|_| Sum::default()),
         };
         let coefficients = inside.coefficients();
-        inside.distances =
-            std::array::from_fn(|row| inside.distance(&coefficients, row, base as i16));
+        let base = base(call.fraction);
+        inside.distances = std::array::from_fn(|row| inside.distance(&coefficients, row, base));
         inside
     }
 
@@ -205,4 +204,9 @@ pub fn within(limit: GainLimit) -> usize {
         GainLimit::Unrestricted => ROWS,
         GainLimit::Resonance => RESONANCE_ROWS,
     }
+}
+
+/// The predicted gain without its exponent, with 14 fraction bits.
+pub fn base(fraction: u16) -> i16 {
+    logarithm::pow2(14, fraction).expect("a fraction that is not refused") as i16
 }

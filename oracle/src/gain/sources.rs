@@ -2,15 +2,10 @@
 
 use super::{
     calls::{Call, EXPONENTS},
-    limits,
-    rows::within,
-    ties,
+    limits, ties, wished,
 };
 use crate::{
-    codec::mr74::{
-        gain::{TABLE, quantization::GainLimit},
-        pitch::search::convolve,
-    },
+    codec::mr74::{gain::quantization::GainLimit, pitch::search::convolve},
     counts::cases,
     inputs::Random,
     speech::Speech,
@@ -65,8 +60,8 @@ impl Drawn {
             3 => (Case::Extreme, extreme_call(random)),
             4 => (Case::Few, few_call(random)),
             5 => (Case::FullScale, full_scale_call(random)),
-            6 => (Case::Wished, wished_call(random)),
-            7 => (Case::Held, held_call(random)),
+            6 => (Case::Wished, wished::row_call(random)),
+            7 => (Case::Held, wished::held_call(random)),
             8 => (Case::Energy, limits::energy_call(random)),
             9 => (Case::Target, limits::target_call(random)),
             10 => (Case::Product, limits::product_call(random)),
@@ -130,7 +125,7 @@ pub fn limit(random: &mut Random) -> GainLimit {
 }
 
 /// Words of any loudness.
-fn any_loudness(random: &mut Random) -> [i16; SUBFRAME] {
+pub fn any_loudness(random: &mut Random) -> [i16; SUBFRAME] {
     let places = random.below(16) as u32;
     quiet(random, places)
 }
@@ -196,7 +191,7 @@ fn few_call(random: &mut Random) -> Call {
 
 /// Words of full scale, or all of them quieter, whose products have one sign up to a place and the
 /// other from there, so that a sum that was clipped comes back.
-pub fn full_scale_call(random: &mut Random) -> Call {
+fn full_scale_call(random: &mut Random) -> Call {
     let adaptive = loud(random);
     let target = turned(random, &adaptive);
     let other = [&adaptive, &target][random.below(2) as usize];
@@ -217,58 +212,30 @@ fn loud(random: &mut Random) -> [i16; SUBFRAME] {
 fn turned(random: &mut Random, signs: &[i16; SUBFRAME]) -> [i16; SUBFRAME] {
     let turns_at = random.below(SUBFRAME as u64 + 1) as usize;
     let turns = random.below(2) == 0;
-    let words = loud(random);
+    agreeing(loud(random), signs, |place| turns ^ (place < turns_at))
+}
+
+/// These words, each with the other's sign or with the opposite one.
+pub fn agreeing(
+    words: [i16; SUBFRAME],
+    signs: &[i16; SUBFRAME],
+    agrees: impl Fn(usize) -> bool,
+) -> [i16; SUBFRAME] {
     std::array::from_fn(|place| {
-        let agrees = turns ^ (place < turns_at);
-        if ((words[place] < 0) == (signs[place] < 0)) == agrees {
-            words[place]
+        let word = words[place];
+        if ((word < 0) == (signs[place] < 0)) == agrees(place) {
+            word
         } else {
-            -1 - words[place]
+            -1 - word
         }
     })
 }
 
-/// A target that is made of the other lists by the gains of a row, at times with a little noise.
-fn wished_call(random: &mut Random) -> Call {
-    let limit = limit(random);
-    let row = random.below(within(limit) as u64) as usize;
-    let [pitch, correction, _] = TABLE[row].map(f64::from);
-    let [adaptive, filtered] = [(); 2].map(|()| {
-        let places = random.below(8) as u32;
-        quiet::<SUBFRAME>(random, places)
-    });
-    // The exponent with which both lists have about the same part.
-    let power = |words: &[i16; SUBFRAME]| {
-        let squares: i64 = words.iter().map(|&word| i64::from(word).pow(2)).sum();
-        (squares.max(1) as f64).sqrt()
-    };
-    let ratio = (4096.0 * power(&adaptive) / power(&filtered)).log2();
-    let exponent = ratio as i16 - random.below(3) as i16;
-    let fraction = fraction(random);
-    let gain = correction / 4096.0 * (f64::from(exponent) + f64::from(fraction) / 32768.0).exp2();
-    let noise_places = 6 + random.below(10) as u32;
-    let noise: [i16; SUBFRAME] = quiet(random, noise_places);
-    let target = std::array::from_fn(|place| {
-        let word = pitch / 16384.0 * f64::from(adaptive[place])
-            + gain / 4096.0 * f64::from(filtered[place]);
-        (word.round() as i16).saturating_add(noise[place])
-    });
-    Call {
-        target,
-        adaptive,
-        filtered,
-        exponent,
-        fraction,
-        limit,
-    }
-}
-
-/// A target of which the gain is about the greatest.
-fn held_call(random: &mut Random) -> Call {
-    let adaptive = any_loudness(random);
-    let factor = 1.2 + (random.below(2001) as f64 - 1000.0) / 1e6;
-    let target = adaptive.map(|word| (factor * f64::from(word)).round() as i16);
-    let filtered = mixed(random);
+/// Words of full scale, of which both sums of `pitch_gain` overflow.
+pub fn loud_call(random: &mut Random) -> Call {
+    let adaptive = uniform(random);
+    let target = agreeing(uniform(random), &adaptive, |_| true);
+    let filtered = uniform(random);
     with_pair(random, [target, adaptive, filtered])
 }
 

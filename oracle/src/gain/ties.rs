@@ -3,16 +3,14 @@
 use super::{
     calls::Call,
     limits::target_of_sum,
-    rows::within,
+    rows::{base, within},
     sources::{fraction, limit},
+    wished::predicted_gain,
 };
 use crate::{
-    codec::mr74::{
-        gain::{
-            TABLE,
-            quantization::{GainLimit, fractional},
-        },
-        logarithm,
+    codec::mr74::gain::{
+        TABLE,
+        quantization::{GainLimit, fractional},
     },
     inputs::Random,
     words::{SUBFRAME, mixed, quiet, with_squares},
@@ -156,8 +154,7 @@ pub fn same_code_call(random: &mut Random) -> Call {
     let exponent = 9 + random.below(3) as i16;
     let places = (exponent - 9) as u32;
     let filtered: [i16; SUBFRAME] = quiet(random, places);
-    let power = (f64::from(exponent) + f64::from(fraction) / 32768.0).exp2();
-    let gain = f64::from(CORRECTIONS[0]) / 4096.0 * power;
+    let gain = f64::from(CORRECTIONS[0]) / 4096.0 * predicted_gain(exponent, fraction);
     Call {
         target: filtered.map(|word| (gain / 4096.0 * f64::from(word)).round() as i16),
         adaptive: [0; SUBFRAME],
@@ -166,9 +163,4 @@ pub fn same_code_call(random: &mut Random) -> Call {
         fraction,
         limit: GainLimit::Unrestricted,
     }
-}
-
-/// The predicted gain without its exponent.
-fn base(fraction: u16) -> i16 {
-    logarithm::pow2(14, fraction).expect("a fraction that is not refused") as i16
 }
