@@ -1,0 +1,285 @@
+// The program of 01, 'Feed and program': reads a feed from standard input and prints a line a record, both in blocks of 64 KB.
+use feed::Header;
+use gain::QuantizedGain;
+use libc::STDIN_FILENO;
+use libc::STDOUT_FILENO;
+use pitch::PitchLag;
+use refusal::Refusal;
+use selection::Answer;
+use selection::Selection;
+
+// What is carried from record to record.
+struct State {
+    selection: Selection,
+    // The number of the last record.
+    number: u64,
+    // The place of the next record in the input block.
+    at: usize,
+    // The bytes that the input block has.
+    have: usize,
+    // The bytes of the output block that wait to be written.
+    filled: usize,
+    // The input has ended.
+    ended: bool,
+    // A record may follow.
+    open: bool,
+}
+
+// No input has as many blocks as the loop has turns.
+fn main() {
+    let mut input = io::large_buffer();
+    let mut output = io::large_buffer();
+    let mut state = begun(&mut output);
+    let mut turns = u64::MAX;
+    while turns > 0 && state.open {
+        state = block(state, &mut input, &mut output);
+        turns -= 1;
+    }
+    flush(&output, state.filled);
+}
+
+fn begun(output: &mut [u8]) -> State {
+    let filled = put_text(output, 0, b"mr74 select\n");
+    State {
+        selection: Selection::fresh(),
+        number: 0,
+        at: 0,
+        have: 0,
+        filled,
+        ended: false,
+        open: true,
+    }
+}
+
+// What is left of the input block moves to its front, the rest is read behind it, and its whole records are run.
+fn block(state: State, input: &mut [u8], output: &mut [u8]) -> State {
+    let kept = moved(input, state.at, state.have);
+    if input.len() <= kept {
+        return closed(state);
+    }
+    let got = io::read_full(STDIN_FILENO, &mut input[kept..]);
+    let have = kept + got;
+    run(loaded(state, have, have < input.len()), input, output)
+}
+
+// How many bytes are left.
+fn moved(input: &mut [u8], at: usize, have: usize) -> usize {
+    if input.len() < have {
+        return 0;
+    }
+    if have <= at {
+        return 0;
+    }
+    let left = have - at;
+    for i in 0..left {
+        input[i] = input[at + i];
+    }
+    left
+}
+
+fn loaded(state: State, have: usize, ended: bool) -> State {
+    let mut next = state;
+    next.at = 0;
+    next.have = have;
+    next.ended = ended;
+    next
+}
+
+fn closed(state: State) -> State {
+    let mut next = state;
+    next.open = false;
+    next
+}
+
+// A record has at least one byte, so there are no more records than bytes.
+fn run(state: State, input: &[u8], output: &mut [u8]) -> State {
+    let have = state.have;
+    if input.len() < have {
+        return closed(state);
+    }
+    let feed = &input[..have];
+    let mut next = state;
+    let mut end = end_of(feed, next.at, next.ended);
+    let mut turns = have;
+    while turns > 0 && next.open && next.at < end {
+        next = record(next, feed, end, output);
+        end = end_of(feed, next.at, next.ended);
+        turns -= 1;
+    }
+    if state.ended {
+        return closed(next);
+    }
+    next
+}
+
+// Where the record at a place ends; the place itself where there is none to run. A record that goes on behind the block waits for the next block.
+fn end_of(feed: &[u8], at: usize, ended: bool) -> usize {
+    match feed::header_at(feed, at) {
+        Header::End => at,
+        Header::Record { kind: _, next } => next,
+        Header::Refused(refusal) => {
+            if ended || !short(refusal) {
+                return feed.len();
+            }
+            at
+        }
+    }
+}
+
+fn short(refusal: Refusal) -> bool {
+    match refusal {
+        Refusal::FeedEnd(_) => true,
+        _ => false,
+    }
+}
+
+fn record(state: State, feed: &[u8], end: usize, output: &mut [u8]) -> State {
+    let stepped = selection::step(state.selection, feed, state.at);
+    let selection = stepped.selection;
+    let answer = stepped.answer;
+    let words = stepped.words;
+    let number = std::num::wrapping_add_u64(state.number, 1);
+    let numbered = put_decimal(output, state.filled, number);
+    let told = put_answer(output, numbered, answer, &words);
+    let filled = put(output, told, b'\n');
+    State {
+        selection,
+        number,
+        at: end,
+        have: state.have,
+        filled,
+        ended: state.ended,
+        open: goes_on(answer),
+    }
+}
+
+// After numbers 9 and 10 the program stops.
+fn goes_on(answer: Answer) -> bool {
+    match answer {
+        Answer::Refused(refusal) => refusal.number() < 9,
+        _ => true,
+    }
+}
+
+// ---- Lines, into the output block.
+
+fn put_answer(output: &mut [u8], filled: usize, answer: Answer, words: &[i16; 160]) -> usize {
+    match answer {
+        Answer::End => filled,
+        Answer::Reset => put_text(output, filled, b" reset"),
+        Answer::Open(lag) => {
+            let named = put_text(output, filled, b" open");
+            put_number(output, named, lag as u64)
+        }
+        Answer::Pitch { index, lag, hertz } => {
+            let named = put_text(output, filled, b" pitch");
+            let indexed = put_number(output, named, index as u64);
+            put_lag(output, indexed, lag, hertz)
+        }
+        Answer::Pulses(pulses) => {
+            let named = put_text(output, filled, b" pulses");
+            let positioned = put_number(output, named, pulses.positions as u64);
+            put_number(output, positioned, pulses.signs as u64)
+        }
+        Answer::Gain(gain) => {
+            let named = put_text(output, filled, b" gain");
+            put_gain(output, named, gain)
+        }
+        Answer::Filter => {
+            let named = put_text(output, filled, b" filter");
+            put_words(output, named, words)
+        }
+        Answer::Lag { lag, hertz } => {
+            let named = put_text(output, filled, b" lag");
+            put_lag(output, named, lag, hertz)
+        }
+        Answer::Refused(refusal) => put_refused(output, filled, refusal),
+    }
+}
+
+fn put_lag(output: &mut [u8], filled: usize, lag: PitchLag, hertz: u16) -> usize {
+    let samples = put_number(output, filled, lag.samples as u64);
+    let fraction = lag.fraction;
+    let thirds = put_word(output, samples, fraction.thirds());
+    put_number(output, thirds, hertz as u64)
+}
+
+fn put_gain(output: &mut [u8], filled: usize, gain: QuantizedGain) -> usize {
+    let index = put_number(output, filled, gain.index as u64);
+    let row = gain.row;
+    let pitch = put_word(output, index, row.pitch_q14);
+    put_word(output, pitch, row.correction_q12)
+}
+
+fn put_refused(output: &mut [u8], filled: usize, refusal: Refusal) -> usize {
+    let named = put_text(output, filled, b" refused");
+    let number = put_number(output, named, refusal.number() as u64);
+    let detail = refusal.detail();
+    put_signed(output, number, detail.negative, detail.magnitude)
+}
+
+fn put_words(output: &mut [u8], filled: usize, words: &[i16; 160]) -> usize {
+    let mut next = filled;
+    for i in 0..160 {
+        next = put_word(output, next, words[i]);
+    }
+    next
+}
+
+fn put_word(output: &mut [u8], filled: usize, word: i16) -> usize {
+    put_signed(
+        output,
+        filled,
+        word < 0,
+        fixed::unsigned_abs(word as i32) as u64,
+    )
+}
+
+fn put_number(output: &mut [u8], filled: usize, n: u64) -> usize {
+    put_signed(output, filled, false, n)
+}
+
+// A space and the number.
+fn put_signed(output: &mut [u8], filled: usize, negative: bool, magnitude: u64) -> usize {
+    let spaced = put(output, filled, b' ');
+    if negative {
+        let signed = put(output, spaced, b'-');
+        return put_decimal(output, signed, magnitude);
+    }
+    put_decimal(output, spaced, magnitude)
+}
+
+fn put_decimal(output: &mut [u8], filled: usize, n: u64) -> usize {
+    let mut text = [0u8; 20];
+    let digits = io::decimal(n, &mut text);
+    put_text(output, filled, &text[..digits])
+}
+
+fn put_text(output: &mut [u8], filled: usize, text: &[u8]) -> usize {
+    let mut next = filled;
+    for i in 0..text.len() {
+        next = put(output, next, text[i]);
+    }
+    next
+}
+
+// A full block is written first.
+fn put(output: &mut [u8], filled: usize, byte: u8) -> usize {
+    if filled < output.len() {
+        output[filled] = byte;
+        return filled + 1;
+    }
+    flush(output, filled);
+    if output.len() == 0 {
+        return 0;
+    }
+    output[0] = byte;
+    1
+}
+
+fn flush(output: &[u8], filled: usize) {
+    if output.len() < filled {
+        return;
+    }
+    io::write_all(STDOUT_FILENO, &output[..filled]);
+}

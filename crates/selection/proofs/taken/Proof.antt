@@ -1,0 +1,99 @@
+use borrow.Author.Needs.{needs}
+use mathlib.Core.Path.{_≡_, ap, _∙_}
+use Prim.Native.Nat.{ℕ, _≤_}
+use native.Mathlib.Omega.{arith}
+use Rattle.feed.specs.Records.{lengths, body-length}
+use Rattle.selection.specs.Steps.{of-kind}
+use Rattle.selection.proofs.taken.Statement.{statement}
+use Rattle.selection.proofs.taken.Tie as tie
+
+-- a kind at most 6 that is none of 0 to 5
+above-2 : (k : ℕ) → (k ≡ 0 → ⊥) → (k ≡ 1 → ⊥) → (k ≡ 2 → ⊥) → 3 ≤ k
+above-2 k a b c = omega arith
+
+above-5 : (k : ℕ) → 3 ≤ k → k ≤ 6 → (k ≡ 3 → ⊥) → (k ≡ 4 → ⊥) → (k ≡ 5 → ⊥) → k ≡ 6
+above-5 k l h a b c = omega arith
+
+reading : (c : tie.At-match-rest) → c .before .before .args .kind ≡ 6
+reading c =
+    let r = c .match .rest in
+    let q = r .0 .0 .0 in
+    above-5 _ (above-2 _ (q .0 .0 .1) (q .0 .1) (q .1)) (c .before .before .pre .0) (r .0 .0 .1) (r .0 .1) (r .1)
+
+fresh-requires : tie.Need-fresh-requires
+fresh-requires c κs = search needs
+
+said-requires : tie.Need-said-requires
+said-requires c κs = search needs
+
+half-frame-record-requires : tie.Need-half-frame-record-requires
+unfolding lengths
+half-frame-record-requires c κs = c .before .before .pre .1 ∙ ap body-length (c .match .keys2)
+
+pitch-record-requires : tie.Need-pitch-record-requires
+unfolding lengths
+pitch-record-requires c κs = c .before .before .pre .1 ∙ ap body-length (c .match .keys3)
+
+pulse-record-requires : tie.Need-pulse-record-requires
+unfolding lengths
+pulse-record-requires c κs = c .before .before .pre .1 ∙ ap body-length (c .match .keys4)
+
+gain-record-requires : tie.Need-gain-record-requires
+unfolding lengths
+gain-record-requires c κs = c .before .before .pre .1 ∙ ap body-length (c .match .keys5)
+
+filtering-record-requires : tie.Need-filtering-record-requires
+unfolding lengths
+filtering-record-requires c κs = c .before .before .pre .1 ∙ ap body-length (c .match .keys6)
+
+lag-record-requires : tie.Need-lag-record-requires
+unfolding lengths
+lag-record-requires c κs = c .before .before .pre .1 ∙ ap body-length (reading c)
+
+returns : tie.Need-returns
+unfolding of-kind
+returns c = rw (c .before .before .match .keys1, c .said .ensures, c .before .fresh .ensures)
+
+returns-2 : tie.Need-returns-2
+unfolding of-kind
+returns-2 c = rw (c .before .match .keys2) (c .half-frame-record .ensures)
+
+returns-3 : tie.Need-returns-3
+unfolding of-kind
+returns-3 c = rw (c .before .match .keys3) (c .pitch-record .ensures)
+
+returns-4 : tie.Need-returns-4
+unfolding of-kind
+returns-4 c = rw (c .before .match .keys4) (c .pulse-record .ensures)
+
+returns-5 : tie.Need-returns-5
+unfolding of-kind
+returns-5 c = rw (c .before .match .keys5) (c .gain-record .ensures)
+
+returns-6 : tie.Need-returns-6
+unfolding of-kind
+returns-6 c = rw (c .before .match .keys6) (c .filtering-record .ensures)
+
+returns-7 : tie.Need-returns-7
+unfolding of-kind
+returns-7 c = rw (reading (c .before)) (c .lag-record .ensures)
+
+pub taken-spec : {M : Type 1} → statement M
+taken-spec =
+    tie.close
+    (tie.spec
+    fresh-requires
+    said-requires
+    half-frame-record-requires
+    pitch-record-requires
+    pulse-record-requires
+    gain-record-requires
+    filtering-record-requires
+    lag-record-requires
+    returns
+    returns-2
+    returns-3
+    returns-4
+    returns-5
+    returns-6
+    returns-7)

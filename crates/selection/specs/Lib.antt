@@ -1,0 +1,3 @@
+-- 01, 'Feed and program': what the contracts of `selection` cite.
+pub mod Lines
+pub mod Steps
