@@ -1,21 +1,26 @@
--- What is handed back has a subframe's 40 words.
-use mathlib.Core.Path.{_≡_}
+-- The lists of a subframe: how long they are, and what a list with zeros after it is.
+use mathlib.Core.Path.{_≡_, refl, sym, ap, _∙_}
+use mathlib.Core.Bool.{Bool, true, false}
 use mathlib.Core.List.{List}
-use Prim.Native.Nat.{_+_}
+use Prim.Native.Nat.{ℕ, _+_}
+use native.Mathlib.Omega.{arith}
+use lib.Dec.{ltb}
 use lib.IntN.{ℤ, pos}
-use lib.ListN.{length}
-use Rattle.fixed.specs.Lists.{at, part}
-use Rattle.fixed.proofs.Lists.{length-tabulate}
-use Rattle.encoder_filtering.specs.Filters.{residual-at, Residu, with-past, Syn-filt}
+use lib.ListN.{length, List·getD-eq-default}
+use borrow.Author.Tests.{le-leb, ltb-false}
+use Rattle.fixed.specs.Lists.{at, part, between}
+use Rattle.fixed.proofs.Lists.{Filled, filled-all}
+use Rattle.filters.proofs.Lengths.{residu-length, syn-length}
 use Rattle.encoder_filtering.specs.Subframes.{impulse-response, target-of, subframePreProc}
 
-pub residu-length : (cs xs : List ℤ) → length (Residu cs xs) ≡ 40
-unfolding Residu
-residu-length cs xs = length-tabulate (residual-at cs xs) (pos 0) 40
-
-syn-length : (cs xs past : List ℤ) → length (Syn-filt cs xs past) ≡ 40
-unfolding Syn-filt part
-syn-length cs xs past = length-tabulate (λ k. at (with-past cs xs past) (10 + k)) (pos 0) 40
+-- the first m places are those of xs, which ends there; the others are 0, as a list reads past its end
+pub with-zeros : (m n : ℕ) (xs ws : List ℤ) → length xs ≡ m → length ws ≡ n → Filled (between (at xs) (λ k. pos 0) 0 m) (pos 0) n ws → ws ≡ part xs 0 n
+unfolding part
+with-zeros m n xs ws e l p = filled-all (λ k. at xs (0 + k)) (pos 0) n ws l (λ k h. p k h ∙ go k (ltb k m) refl)
+  where
+    go : (k : ℕ) (t : Bool) → ltb k m ≡ t → between (at xs) (λ i. pos 0) 0 m k ≡ at xs (0 + k)
+    go k true q = let z : k ≡ 0 + k = omega arith in rw (le-leb 0 k (omega arith), q) (ap (at xs) z)
+    go k false q = rw (le-leb 0 k (omega arith), q) (sym (List·getD-eq-default xs (pos 0) {n = 0 + k} (omega (arith, ltb-false k m q))))
 
 -- the four lists of `prepare`, in their order
 module _ (speech cs quantized error-past weighting-past : List ℤ) where

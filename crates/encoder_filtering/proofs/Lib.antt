@@ -1,4 +1,2 @@
 -- The laws that belong to no one function.
-pub mod Tappings
 pub mod Lengths
-pub mod Plainly

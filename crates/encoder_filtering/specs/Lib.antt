@@ -1,4 +1,2 @@
 -- Target filtering, TS 26.073 subframePreProc at 7.4 kbit/s: what the contracts of `encoder_filtering` cite.
-pub mod Filters
-pub mod Plain
 pub mod Subframes

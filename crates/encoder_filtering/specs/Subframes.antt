@@ -8,7 +8,7 @@ use Rattle.refusal.specs.Checks.{Check, Outcome, unless-refused, length-is}
 use Rattle.encoder_filtering.specs.declared.Filtering.{Filtering}
 use Rattle.encoder_filtering.specs.declared.Filtering.the-variants.{Written, Refused}
 use Rattle.encoder_filtering.specs.declared.PreparedSubframe.{PreparedSubframe}
-use Rattle.encoder_filtering.specs.Filters.{Weight-Ai, Residu, with-past, Syn-filt}
+use Rattle.filters.specs.Filters.{Weight-Ai, Residu, with-past, Syn-filt}
 
 -- the powers of 0.94 in Q15 (gamma1)
 unfoldable pub gamma-one : List ℤ

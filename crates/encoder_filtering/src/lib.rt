@@ -1,13 +1,8 @@
-// Target filtering, TS 26.073 subframePreProc at 7.4 kbit/s, from encoder_filtering.rs, with `weight` of postfilter.rs and `preview` of synthesis.rs.
+// Target filtering, TS 26.073 subframePreProc at 7.4 kbit/s, from encoder_filtering.rs.
 use refusal::Refusal;
 ghost use mathlib.Core.Path.{_≡_};
-ghost use Prim.Native.Nat.{_+_, _^_, _≤_, _<_, max};
-ghost use lib.IntN.{natAbs, _*ℤ_};
 ghost use lib.ListN.{length};
-ghost use Rattle.fixed.specs.Operators.{L-mult};
-ghost use Rattle.fixed.specs.Lists.{at, tabulate, part};
-ghost use Rattle.encoder_filtering.specs.Filters.{Weight-Ai, taps-to, Residu, less-past, with-past};
-ghost use Rattle.encoder_filtering.specs.Plain.{magnitudes, weighed, Below};
+ghost use Rattle.fixed.specs.Lists.{part, copied};
 ghost use Rattle.encoder_filtering.specs.Subframes.{impulse-response, target-of, subframePreProc, told, lists, residual, prepare};
 
 const SUBFRAME_SAMPLES: usize = 40;
@@ -17,8 +12,6 @@ const LPC_ORDER: usize = 10;
 const COEFFICIENTS: usize = 11;
 
 const INPUT_SAMPLES: usize = 50;
-
-const FILTER_SHIFT: i16 = 3;
 
 const GAMMA_ONE_Q15: [i16; 10] = [
     30802,
@@ -97,6 +90,20 @@ pub fn prepare(
         error_history_q0,
         weighting_history_q0,
     );
+    hand_back(prepared, residual_q0, impulse_q12, target_q0, error_q0);
+    Filtering::Written
+}
+
+// Into the lent lists.
+fn hand_back(
+    prepared: PreparedSubframe,
+    residual_q0: &mut [i16],
+    impulse_q12: &mut [i16],
+    target_q0: &mut [i16],
+    error_q0: &mut [i16],
+)
+    ensures { λ r. ⌜ lists (now («residual_q0» .exit)) (now («impulse_q12» .exit)) (now («target_q0» .exit)) (now («error_q0» .exit)) ≡ lists (copied (prepared .«residual_q0») (now («residual_q0» .entry))) (copied (prepared .«impulse_q12») (now («impulse_q12» .entry))) (copied (prepared .«target_q0») (now («target_q0» .entry))) (copied (prepared .«error_q0») (now («error_q0» .entry))) ⌝ }
+{
     let residual = prepared.residual_q0;
     let impulse = prepared.impulse_q12;
     let target = prepared.target_q0;
@@ -109,7 +116,6 @@ pub fn prepare(
     fixed::copy(impulse_words, impulse_q12);
     fixed::copy(target_words, target_q0);
     fixed::copy(error_words, error_q0);
-    Filtering::Written
 }
 
 // TS 26.073 Residu. The samples begin with the ten before the subframe, oldest first.
@@ -126,7 +132,7 @@ pub fn residual(coefficients_q12: &[i16], samples: &[i16], residual_q0: &mut [i1
     if residual_q0.len() != SUBFRAME_SAMPLES {
         return Filtering::Refused(Refusal::Length(residual_q0.len()));
     }
-    let filtered = filtered(coefficients_q12, samples);
+    let filtered = filters::filtered(coefficients_q12, samples);
     let words: &[i16] = &filtered;
     fixed::copy(words, residual_q0);
     Filtering::Written
@@ -144,20 +150,30 @@ fn prepared(
 {
     let gamma_one = GAMMA_ONE_Q15;
     let gamma_two = GAMMA_TWO_Q15;
-    let weighted_one = weight(coefficients, &gamma_one);
-    let weighted_two = weight(coefficients, &gamma_two);
+    let unquantized = eleven(coefficients);
+    let weighted_one = filters::weight(&unquantized, &gamma_one);
+    let weighted_two = filters::weight(&unquantized, &gamma_two);
     let numerator: &[i16] = &weighted_one;
     let denominator: &[i16] = &weighted_two;
-    let residual = filtered(quantized, speech);
+    let residual = filters::filtered(quantized, speech);
     let residual_words: &[i16] = &residual;
-    let error = synthesis(quantized, residual_words, error_history);
+    let error = filters::synthesis(quantized, residual_words, error_history);
     let error_words: &[i16] = &error;
     PreparedSubframe {
         residual_q0: residual,
         impulse_q12: impulse_response(numerator, denominator, quantized),
         target_q0: target_of(numerator, denominator, error_words, weighting_history),
-        error_q0: put_out(&error),
+        error_q0: filters::put_out(&error),
     }
+}
+
+fn eleven(list: &[i16]) -> [i16; 11]
+    requires { ⌜ length (now list) ≡ 11 ⌝ }
+    ensures { λ r. ⌜ r ≡ now (list .entry) ⌝ }
+{
+    let mut words = [0i16; COEFFICIENTS];
+    fixed::copy(list, &mut words);
+    words
 }
 
 fn impulse_response(numerator: &[i16], denominator: &[i16], quantized: &[i16]) -> [i16; 40]
@@ -168,9 +184,9 @@ fn impulse_response(numerator: &[i16], denominator: &[i16], quantized: &[i16]) -
     let none: &[i16] = &silence;
     let extended = extended(numerator);
     let input: &[i16] = &extended;
-    let unweighted = put_out(&synthesis(quantized, input, none));
+    let unweighted = filters::put_out(&filters::synthesis(quantized, input, none));
     let unweighted_words: &[i16] = &unweighted;
-    put_out(&synthesis(denominator, unweighted_words, none))
+    filters::put_out(&filters::synthesis(denominator, unweighted_words, none))
 }
 
 // Eleven coefficients and then zeros.
@@ -189,162 +205,7 @@ fn target_of(numerator: &[i16], denominator: &[i16], error: &[i16], history: &[i
     requires { ⌜ (length (now numerator) ≡ 11) × (length (now denominator) ≡ 11) × (length (now error) ≡ 50) × (length (now history) ≡ 10) ⌝ }
     ensures { λ r. ⌜ r ≡ target-of (now (numerator .entry)) (now (denominator .entry)) (now (error .entry)) (now (history .entry)) ⌝ }
 {
-    let weighted = filtered(numerator, error);
+    let weighted = filters::filtered(numerator, error);
     let weighted_words: &[i16] = &weighted;
-    put_out(&synthesis(denominator, weighted_words, history))
-}
-
-// TS 26.073 Weight_Ai.
-fn weight(coefficients: &[i16], factors: &[i16; 10]) -> [i16; 11]
-    requires { ⌜ length (now coefficients) ≡ 11 ⌝ }
-    ensures { λ r. ⌜ r ≡ Weight-Ai (now (coefficients .entry)) (now (factors .entry)) ⌝ }
-{
-    let mut weighted = [0i16; 11];
-    weighted[0] = coefficients[0];
-    for i in 0..LPC_ORDER {
-        weighted[i + 1] = fixed::rounded(fixed::product(coefficients[i + 1], factors[i]));
-    }
-    weighted
-}
-
-// TS 26.073 Residu.
-fn filtered(coefficients: &[i16], samples: &[i16]) -> [i16; 40]
-    requires { ⌜ (length (now coefficients) ≡ 11) × (length (now samples) ≡ 50) ⌝ }
-    ensures { λ r. ⌜ r ≡ Residu (now (coefficients .entry)) (now (samples .entry)) ⌝ }
-{
-    let sums = tap_sums(coefficients, samples);
-    let mut residual = [0i16; 40];
-    for i in 0..SUBFRAME_SAMPLES {
-        residual[i] = fixed::rounded(fixed::shift(sums[i], FILTER_SHIFT));
-    }
-    residual
-}
-
-// Coefficient by coefficient: the 40 sums grow side by side, each in its own order.
-fn tap_sums(coefficients: &[i16], samples: &[i16]) -> [i32; 40]
-    requires { ⌜ (length (now coefficients) ≡ 11) × (length (now samples) ≡ 50) ⌝ }
-    ensures { λ r. ⌜ r ≡ tabulate (λ i. taps-to (now (coefficients .entry)) (now (samples .entry)) i 11) 40 ⌝ }
-{
-    let mut sums = [0i32; 40];
-    let mut tap = 0;
-    while tap < COEFFICIENTS {
-        let mut i = 0;
-        while i < SUBFRAME_SAMPLES {
-            sums[i] = fixed::mac(sums[i], samples[LPC_ORDER + i - tap], coefficients[tap]);
-            i += 1;
-        }
-        tap += 1;
-    }
-    sums
-}
-
-// TS 26.073 Syn_filt: ten samples of the past, and the 40 that the filter puts out after them.
-fn synthesis(coefficients: &[i16], excitation: &[i16], past: &[i16]) -> [i16; 50]
-    requires { ⌜ (length (now coefficients) ≡ 11) × (length (now excitation) ≡ 40) × (length (now past) ≡ 10) ⌝ }
-    ensures { λ r. ⌜ r ≡ with-past (now (coefficients .entry)) (now (excitation .entry)) (now (past .entry)) ⌝ }
-{
-    let reach = reach(coefficients);
-    let mut samples = [0i16; 50];
-    let mut peak: u32 = 0;
-    for i in 0..LPC_ORDER {
-        let sample = past[i];
-        samples[i] = sample;
-        peak = greater(peak, magnitude(sample));
-    }
-    for n in 0..SUBFRAME_SAMPLES {
-        let sum = sum_at(
-            coefficients,
-            excitation[n],
-            &samples,
-            LPC_ORDER + n,
-            reach,
-            peak,
-        );
-        let sample = fixed::rounded(fixed::shift(sum, FILTER_SHIFT));
-        samples[LPC_ORDER + n] = sample;
-        peak = greater(peak, magnitude(sample));
-    }
-    samples
-}
-
-// Where no sample is above `peak`, no sum is above what the test computes, and below 2^30 nothing is clipped on the way.
-fn sum_at(
-    coefficients: &[i16],
-    excitation: i16,
-    samples: &[i16; 50],
-    place: usize,
-    reach: u32,
-    peak: u32,
-) -> i32
-    requires { ⌜ (length (now coefficients) ≡ 11) × (10 ≤ place) × (place ≤ 50) × (reach ≡ magnitudes (now coefficients) 10) × Below (now samples) place peak ⌝ }
-    ensures { λ r. ⌜ r ≡ less-past (now (coefficients .entry)) (now (samples .entry)) place (L-mult excitation (at (now (coefficients .entry)) 0)) 10 ⌝ }
-{
-    let first = fixed::exact(excitation, coefficients[0]);
-    if 1073741823 < fixed::unsigned_abs(first) as u64 + reach as u64 * peak as u64 {
-        return clipped_sum(coefficients, excitation, samples, place);
-    }
-    plain_sum(coefficients, excitation, samples, place)
-}
-
-fn clipped_sum(coefficients: &[i16], excitation: i16, samples: &[i16; 50], place: usize) -> i32
-    requires { ⌜ (length (now coefficients) ≡ 11) × (10 ≤ place) × (place ≤ 50) ⌝ }
-    ensures { λ r. ⌜ r ≡ less-past (now (coefficients .entry)) (now (samples .entry)) place (L-mult excitation (at (now (coefficients .entry)) 0)) 10 ⌝ }
-{
-    let mut sum = fixed::product(excitation, coefficients[0]);
-    let mut tap = 0;
-    while tap < LPC_ORDER {
-        tap += 1;
-        sum = fixed::msu(sum, coefficients[tap], samples[place - tap]);
-    }
-    sum
-}
-
-// Half the sum, the newest sample last: the other products do not wait for it.
-fn plain_sum(coefficients: &[i16], excitation: i16, samples: &[i16; 50], place: usize) -> i32
-    requires { ⌜ (length (now coefficients) ≡ 11) × (10 ≤ place) × (place ≤ 50) × (natAbs (excitation *ℤ at (now coefficients) 0) + weighed (now coefficients) (now samples) place 10 < 2 ^ 30) ⌝ }
-    ensures { λ r. ⌜ r ≡ less-past (now (coefficients .entry)) (now (samples .entry)) place (L-mult excitation (at (now (coefficients .entry)) 0)) 10 ⌝ }
-{
-    let mut sum = fixed::exact(excitation, coefficients[0]);
-    let mut tap = LPC_ORDER;
-    while 0 < tap {
-        sum = sum - fixed::exact(coefficients[tap], samples[place - tap]);
-        tap -= 1;
-    }
-    2 * sum
-}
-
-fn reach(coefficients: &[i16]) -> u32
-    requires { ⌜ length (now coefficients) ≡ 11 ⌝ }
-    ensures { λ r. ⌜ r ≡ magnitudes (now (coefficients .entry)) 10 ⌝ }
-{
-    let mut sum: u32 = 0;
-    for i in 0..LPC_ORDER {
-        sum = sum + magnitude(coefficients[i + 1]);
-    }
-    sum
-}
-
-fn magnitude(v: i16) -> u32
-    ensures { λ r. ⌜ (r ≡ natAbs v) × (r ≤ 32768) ⌝ }
-{
-    fixed::unsigned_abs(v as i32)
-}
-
-fn greater(a: u32, b: u32) -> u32
-    ensures { λ r. ⌜ r ≡ max a b ⌝ }
-{
-    if a < b {
-        return b;
-    }
-    a
-}
-
-fn put_out(samples: &[i16; 50]) -> [i16; 40]
-    ensures { λ r. ⌜ r ≡ part (now (samples .entry)) 10 40 ⌝ }
-{
-    let mut words = [0i16; 40];
-    for i in 0..SUBFRAME_SAMPLES {
-        words[i] = samples[LPC_ORDER + i];
-    }
-    words
+    filters::put_out(&filters::synthesis(denominator, weighted_words, history))
 }

@@ -7,7 +7,7 @@ use mir.Val.{toZ, ofZ}
 use Rattle.fixed.specs.Lists.{at, between}
 use Rattle.fixed.proofs.Bounds.{got}
 use Rattle.fixed.proofs.Lists.{Filled, none-placed, zeros, placed-more}
-use Rattle.encoder_filtering.proofs.Tappings.{with-zeros}
+use Rattle.encoder_filtering.proofs.Lengths.{with-zeros}
 use borrow.Author.Needs.{needs}
 use native.Mathlib.Omega.{arith}
 use Rattle.encoder_filtering.proofs.extended.Statement.{statement}

@@ -1,9 +1,20 @@
-use Rattle.encoder_filtering.specs.Subframes.{impulse-response}
-use Rattle.encoder_filtering.specs.Filters.{Syn-filt}
+use Rattle.encoder_filtering.specs.Subframes.{silence, impulse-response}
+use mathlib.Core.Path.{_≡_, refl}
+use mathlib.Core.List.{List}
+use Prim.Native.Nat.{_+_}
+use lib.IntN.{ℤ, pos}
+use lib.ListN.{length}
+use Rattle.fixed.specs.Lists.{at, part}
+use Rattle.fixed.proofs.Lists.{length-tabulate}
+use Rattle.filters.proofs.Lengths.{syn-length, synthesis-put-out}
 use borrow.Author.Needs.{needs}
 use Rattle.encoder_filtering.proofs.impulse_response.Statement.{statement}
 use Rattle.encoder_filtering.proofs.impulse_response.Tie as tie
-use Rattle.encoder_filtering.proofs.put_out.Reads as put-out-reads
+use Rattle.filters.proofs.put_out.Reads as put-out-reads
+
+extended-length : (xs : List ℤ) → length (part xs 0 40) ≡ 40
+unfolding part
+extended-length xs = length-tabulate (λ k. at xs (0 + k)) (pos 0) 40
 
 slice-aggregate-none : tie.Need-slice-aggregate-none
 slice-aggregate-none c = search needs
@@ -30,12 +41,22 @@ put-out-requires-2 : tie.Need-put-out-requires-2
 put-out-requires-2 c κs = search needs
 
 returns : tie.Need-returns
-unfolding impulse-response Syn-filt
+unfolding impulse-response
 returns c =
     let y = c .before .before in
     let u = y .before .before in
     let z = u .before .before in
-    rw (c .put-out2 .ensures, y .synthesis2 .ensures, u .put-out .ensures, z .synthesis .ensures, z .before .before .extended .ensures)
+    let e = z .before .before in
+    let b = e .before .before in
+    rw (
+      c .put-out2 .ensures,
+      y .synthesis2 .ensures,
+      u .put-out .ensures,
+      z .synthesis .ensures,
+      e .extended .ensures,
+      synthesis-put-out (b .args .quantized .now) (part (b .args .numerator .now) 0 40) silence (b .pre .2) (extended-length (b .args .numerator .now)) refl,
+      synthesis-put-out _ _ _ (b .pre .1) (syn-length _ _ _) refl,
+    )
 
 pub impulse-response-spec : {M : Type 1} → statement M
 impulse-response-spec =

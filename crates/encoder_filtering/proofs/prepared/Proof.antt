@@ -1,10 +1,15 @@
 use Rattle.encoder_filtering.specs.Subframes.{gamma-one, gamma-two, subframePreProc}
-use Rattle.encoder_filtering.specs.Filters.{Syn-filt}
+use mathlib.Core.Path.{_≡_}
+use Rattle.filters.specs.Filters.{Residu, with-past, Syn-filt}
+use Rattle.filters.proofs.Lengths.{residu-length, filtered-whole, synthesis-whole}
 use borrow.Author.Needs.{needs}
 use Rattle.encoder_filtering.proofs.prepared.Statement.{statement}
 use Rattle.encoder_filtering.proofs.prepared.Tie as tie
 use Rattle.encoder_filtering.proofs.impulse_response.Reads as impulse-response-reads
-use Rattle.encoder_filtering.proofs.put_out.Reads as put-out-reads
+use Rattle.filters.proofs.put_out.Reads as put-out-reads
+
+eleven-requires : tie.Need-eleven-requires
+eleven-requires c κs = search needs
 
 weight-requires : tie.Need-weight-requires
 weight-requires c κs = search needs
@@ -47,21 +52,32 @@ returns c =
     let s = h .before .before in
     let f = s .before .before in
     let two = f .before .before .before in
-    let one = two .before .before in
+    let one = two .before .before .before in
+    let e = one .before .before .before in
+    let b = e .before in
+    let quantized = b .args .quantized .now in
+    let speech = b .args .speech .now in
+    let past = b .args .error-history .now in
+    let r : f .filtered .result ≡ Residu quantized speech = rw (f .filtered .ensures) (filtered-whole quantized speech (b .pre .2) (b .pre .0)) in
+    let y : s .synthesis .result ≡ with-past quantized (Residu quantized speech) past =
+    rw (s .synthesis .ensures, r) (synthesis-whole quantized (Residu quantized speech) past (b .pre .2) (residu-length quantized speech) (b .pre .3))
+    in
     rw (
       c .put-out .ensures,
       t .target-of .ensures,
       h .impulse-response .ensures,
-      s .synthesis .ensures,
-      f .filtered .ensures,
+      y,
+      r,
       two .weight2 .ensures,
       one .weight .ensures,
+      e .eleven .ensures,
     )
 
 pub prepared-spec : {M : Type 1} → statement M
 prepared-spec =
     tie.close
     (tie.spec
+    eleven-requires
     weight-requires
     weight-requires-2
     slice-aggregate-numerator

@@ -1,5 +1,5 @@
-use Rattle.encoder_filtering.proofs.Lengths.{residu-length}
-use Rattle.encoder_filtering.specs.Filters.{Residu}
+use Rattle.filters.proofs.Lengths.{residu-length, filtered-whole}
+use Rattle.filters.specs.Filters.{Residu}
 use Rattle.fixed.proofs.Lists.{copied-whole}
 use Rattle.encoder_filtering.specs.Subframes.{residual}
 use borrow.Author.Tests.{eq-eqb, ne-eqb}
@@ -52,7 +52,7 @@ returns-4 c =
     let a3 = eq-eqb _ _ (s .if3 .left) in
     let out = Residu (i .coefficients-q12 .now) (i .samples .now) in (
       rw (a1, a2, a3),
-      rw (a1, a2, a3, k .copy .ensures, f .filtered .ensures) (copied-whole 40 out (i .residual-q0 .now) (residu-length (i .coefficients-q12 .now) (i .samples .now)) (s .if3 .left)),
+      rw (a1, a2, a3, k .copy .ensures, f .filtered .ensures, filtered-whole _ _ (s .before .before .if1 .left) (s .before .if2 .left)) (copied-whole 40 out (i .residual-q0 .now) (residu-length (i .coefficients-q12 .now) (i .samples .now)) (s .if3 .left)),
     )
 
 pub residual-spec : {M : Type 1} → statement M

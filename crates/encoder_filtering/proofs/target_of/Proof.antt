@@ -1,9 +1,9 @@
 use Rattle.encoder_filtering.specs.Subframes.{target-of}
-use Rattle.encoder_filtering.specs.Filters.{Syn-filt}
+use Rattle.filters.proofs.Lengths.{residu-length, filtered-whole, synthesis-put-out}
 use borrow.Author.Needs.{needs}
 use Rattle.encoder_filtering.proofs.target_of.Statement.{statement}
 use Rattle.encoder_filtering.proofs.target_of.Tie as tie
-use Rattle.encoder_filtering.proofs.put_out.Reads as put-out-reads
+use Rattle.filters.proofs.put_out.Reads as put-out-reads
 
 filtered-requires : tie.Need-filtered-requires
 filtered-requires c κs = search needs
@@ -18,8 +18,18 @@ put-out-requires : tie.Need-put-out-requires
 put-out-requires c κs = search needs
 
 returns : tie.Need-returns
-unfolding target-of Syn-filt
-returns c = rw (c .put-out .ensures, c .before .before .synthesis .ensures, c .before .before .before .before .filtered .ensures)
+unfolding target-of
+returns c =
+    let s = c .before .before in
+    let f = s .before .before in
+    let p = f .before .pre in
+    rw (
+      c .put-out .ensures,
+      s .synthesis .ensures,
+      f .filtered .ensures,
+      filtered-whole _ _ (p .0) (p .2),
+      synthesis-put-out _ _ _ (p .1) (residu-length _ _) (p .3),
+    )
 
 pub target-of-spec : {M : Type 1} → statement M
 target-of-spec =

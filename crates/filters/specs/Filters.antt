@@ -1,7 +1,10 @@
 -- TS 26.073 Weight_Ai, Residu and Syn_filt: filters of ten coefficients in Q12 after one at place 0, which an encoder sets to 1; nothing here rests on it.
+use mathlib.Core.Bool.{cond, _&&_}
 use mathlib.Core.List.{List, [], _∷_, _++_}
 use Prim.Native.Nat.{ℕ, zero, suc, _+_, _-_}
+use lib.Dec.{eqb}
 use lib.IntN.{ℤ, pos}
+use lib.ListN.{length, replicate}
 use Rattle.fixed.specs.Operators.{L-mult, L-msu, L-shl, round}
 use Rattle.fixed.specs.Lists.{at, tabulate, part, L-sum}
 
@@ -51,3 +54,13 @@ with-past cs xs past = put-out cs xs past 40
 -- 1 / A(z): the subframe's 40 alone
 unfoldable pub Syn-filt : List ℤ → List ℤ → List ℤ → List ℤ
 Syn-filt cs xs past = part (with-past cs xs past) 10 40
+
+-- ---- the same for every list: all 0 where a list has another length than the filter's
+-- Residu by eleven, of the ten samples before a subframe and its 40
+unfoldable pub filtered : List ℤ → List ℤ → List ℤ
+filtered cs xs = cond (eqb (length cs) 11 && eqb (length xs) 50) (Residu cs xs) (replicate 40 (pos 0))
+
+-- Syn_filt by eleven, of a subframe's 40 after ten of the past, with that past
+unfoldable pub synthesis : List ℤ → List ℤ → List ℤ → List ℤ
+synthesis cs xs past =
+    cond (eqb (length cs) 11 && eqb (length xs) 40 && eqb (length past) 10) (with-past cs xs past) (replicate 50 (pos 0))

@@ -7,12 +7,13 @@ use mir.Val.{toZ, ofZ}
 use Rattle.fixed.proofs.Bounds.{got}
 use Rattle.fixed.specs.Lists.{at, tabulate}
 use Rattle.fixed.proofs.Lists.{at-tabulate, Filled, filled-more, filled-all}
-use Rattle.encoder_filtering.specs.Filters.{taps-to, residual-at, Residu}
+use Rattle.filters.specs.Filters.{taps-to, residual-at, Residu, filtered}
+use borrow.Author.Tests.{eq-eqb, ne-eqb}
 use borrow.Author.Needs.{needs}
 use native.Mathlib.Omega.{arith}
-use Rattle.encoder_filtering.proofs.filtered.Statement.{statement}
-use Rattle.encoder_filtering.proofs.filtered.Tie as tie
-use Rattle.encoder_filtering.proofs.tap_sums.Reads as tap-sums-reads
+use Rattle.filters.proofs.filtered.Statement.{statement}
+use Rattle.filters.proofs.filtered.Tie as tie
+use Rattle.filters.proofs.tap_sums.Reads as tap-sums-reads
 
 abbrev Inv-loop : tie.InvT-loop
 Inv-loop coefficients samples sums residual₀ i₀ residual i = (sums ≡ tabulate (λ k. taps-to coefficients samples k 11) 40) × (i ≤ 40) × (length residual ≡ 40) × Filled (residual-at coefficients samples) (pos 0) i residual
@@ -20,8 +21,16 @@ Inv-loop coefficients samples sums residual₀ i₀ residual i = (sums ≡ tabul
 abbrev μ-loop : tie.MeasureT-loop
 μ-loop coefficients samples sums residual₀ i₀ residual i = 40 - i
 
+returns : tie.Need-returns Inv-loop μ-loop
+unfolding filtered
+returns c = rw (ne-eqb _ 11 (c .if1 .taken))
+
+returns-2 : tie.Need-returns-2 Inv-loop μ-loop
+unfolding filtered
+returns-2 c = rw (eq-eqb _ 11 (c .before .if1 .left), ne-eqb _ 50 (c .if2 .taken))
+
 tap-sums-requires : tie.Need-tap-sums-requires Inv-loop μ-loop
-tap-sums-requires c κs = c .pre
+tap-sums-requires c κs = (c .before .if1 .left, c .if2 .left)
 
 loop-holds : tie.Need-loop-holds Inv-loop μ-loop
 loop-holds c = (c .tap-sums .ensures, omega arith, refl, λ k l. absurd (omega arith))
@@ -55,7 +64,7 @@ unfolding residual-at
 loop-again c =
     let f = c .before in
     let s = f .before .before .before in
-    let a = s .before .before .args in
+    let a = s .before .before .before .before .args in
     let i = s .loop .i in
     let g : ℕ → ℤ = residual-at (a .coefficients .now) (a .samples .now) in
     let sums = s .before .tap-sums .result in
@@ -71,13 +80,15 @@ loop-again c =
       filled-more g (pos 0) i (s .loop .residual) v (omega arith) e (s .loop .inv .3),
     )
 
-returns : tie.Need-returns Inv-loop μ-loop
-unfolding Residu
-returns c =
+returns-3 : tie.Need-returns-3 Inv-loop μ-loop
+unfolding filtered Residu
+returns-3 c =
     let s = c .before in
-    let a = s .before .before .args in
+    let b = s .before .before in
+    let a = b .before .before .args in
     let e : s .loop .i ≡ 40 = omega arith in
-    filled-all (residual-at (a .coefficients .now) (a .samples .now)) (pos 0) 40 (s .loop .residual) (s .loop .inv .2) (rw e at (s .loop .inv .3))
+    rw (eq-eqb _ 11 (b .before .if1 .left), eq-eqb _ 50 (b .if2 .left))
+    (filled-all (residual-at (a .coefficients .now) (a .samples .now)) (pos 0) 40 (s .loop .residual) (s .loop .inv .2) (rw e at (s .loop .inv .3)))
 
 pub filtered-spec : {M : Type 1} → statement M
 filtered-spec =
@@ -85,6 +96,8 @@ filtered-spec =
     (tie.spec
     Inv-loop
     μ-loop
+    returns
+    returns-2
     tap-sums-requires
     loop-holds
     mul-shift
@@ -96,4 +109,4 @@ filtered-spec =
     add-i
     loop-less
     loop-again
-    returns)
+    returns-3)

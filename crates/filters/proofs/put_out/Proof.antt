@@ -8,8 +8,8 @@ use Rattle.fixed.specs.Lists.{at, part}
 use Rattle.fixed.proofs.Lists.{Filling, filling-more, filling-all}
 use borrow.Author.Needs.{needs}
 use native.Mathlib.Omega.{arith}
-use Rattle.encoder_filtering.proofs.put_out.Statement.{statement}
-use Rattle.encoder_filtering.proofs.put_out.Tie as tie
+use Rattle.filters.proofs.put_out.Statement.{statement}
+use Rattle.filters.proofs.put_out.Tie as tie
 
 abbrev Inv-loop : tie.InvT-loop
 Inv-loop samples words₀ i₀ words i = Filling (λ k. at samples (10 + k)) 40 i words

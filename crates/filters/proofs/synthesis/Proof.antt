@@ -1,7 +1,7 @@
-use Rattle.encoder_filtering.proofs.Plainly.{below-more}
+use Rattle.filters.proofs.Plainly.{below-more}
 use Prim.Native.Nat.{max, ℕ, _≤_, _-_, _+_}
 use native.Mathlib.Omega.{arith}
-use Rattle.encoder_filtering.specs.Plain.{Below, magnitudes}
+use Rattle.filters.specs.Plain.{Below, magnitudes}
 use mathlib.Core.Path.{_≡_, refl, sym, _∙_}
 use lib.IntN.{ℤ, pos, natAbs}
 use lib.ListN.{length, length-set}
@@ -11,12 +11,13 @@ use mir.Val.{toZ, ofZ}
 use Rattle.fixed.proofs.Bounds.{got}
 use Rattle.fixed.specs.Lists.{at}
 use Rattle.fixed.proofs.Lists.{Filled, filled-more}
-use Rattle.encoder_filtering.specs.Filters.{synthesized, put-out, with-past}
-use Rattle.encoder_filtering.proofs.Tappings.{synthesized-same, put-out-length, put-out-past, put-out-before, put-out-last}
+use Rattle.filters.specs.Filters.{synthesized, put-out, with-past, synthesis}
+use Rattle.filters.proofs.Tappings.{synthesized-same, put-out-length, put-out-past, put-out-before, put-out-last}
+use borrow.Author.Tests.{eq-eqb, ne-eqb}
 use borrow.Author.Needs.{needs}
-use Rattle.encoder_filtering.proofs.synthesis.Statement.{statement}
-use Rattle.encoder_filtering.proofs.synthesis.Tie as tie
-use Rattle.encoder_filtering.proofs.sum_at.Reads as sum-at-reads
+use Rattle.filters.proofs.synthesis.Statement.{statement}
+use Rattle.filters.proofs.synthesis.Tie as tie
+use Rattle.filters.proofs.sum_at.Reads as sum-at-reads
 
 abbrev Inv-loop : tie.InvT-loop
 Inv-loop coefficients excitation past reach samples₀ peak₀ i₀ samples peak i = (length coefficients ≡ 11) × (length excitation ≡ 40) × (length past ≡ 10) × (reach ≡ magnitudes coefficients 10) × (i ≤ 10) × (length samples ≡ 50) × Filled (at past) (pos 0) i samples × Below samples i peak
@@ -30,13 +31,25 @@ Inv-loop2 coefficients excitation past reach samples₀ peak₀ n₀ samples pea
 abbrev μ-loop2 : tie.MeasureT-loop2
 μ-loop2 coefficients excitation past reach samples₀ peak₀ n₀ samples peak n = 40 - n
 
+returns : tie.Need-returns Inv-loop μ-loop Inv-loop2 μ-loop2
+unfolding synthesis
+returns c = rw (ne-eqb _ 11 (c .if1 .taken))
+
+returns-2 : tie.Need-returns-2 Inv-loop μ-loop Inv-loop2 μ-loop2
+unfolding synthesis
+returns-2 c = rw (eq-eqb _ 11 (c .before .if1 .left), ne-eqb _ 40 (c .if2 .taken))
+
+returns-3 : tie.Need-returns-3 Inv-loop μ-loop Inv-loop2 μ-loop2
+unfolding synthesis
+returns-3 c = rw (eq-eqb _ 11 (c .before .before .if1 .left), eq-eqb _ 40 (c .before .if2 .left), ne-eqb _ 10 (c .if3 .taken))
+
 reach-requires : tie.Need-reach-requires Inv-loop μ-loop Inv-loop2 μ-loop2
-reach-requires c κs = c .pre .0
+reach-requires c κs = c .before .before .if1 .left
 
 loop-holds : tie.Need-loop-holds Inv-loop μ-loop Inv-loop2 μ-loop2
 loop-holds c =
     let b = c .before in
-    (b .pre .0, b .pre .1, b .pre .2, c .reach .ensures, omega arith, refl, λ k l. absurd (omega arith), λ k l. absurd (omega arith))
+    (b .before .before .if1 .left, b .before .if2 .left, b .if3 .left, c .reach .ensures, omega arith, refl, λ k l. absurd (omega arith), λ k l. absurd (omega arith))
 
 mul-sample : tie.Need-mul-sample Inv-loop μ-loop Inv-loop2 μ-loop2
 mul-sample c = search needs
@@ -67,7 +80,7 @@ loop-again : tie.Need-loop-again Inv-loop μ-loop Inv-loop2 μ-loop2
 loop-again c =
     let g = c .before in
     let s = g .before .before .before in
-    let xs = s .before .before .args .past .now in
+    let xs = s .before .before .before .before .before .args .past .now in
     let i = s .loop .i in
     let ys = s .loop .samples in
     let v = toZ w16 (ofZ w16 (at xs i)) in
@@ -85,7 +98,7 @@ loop-again c =
 loop2-holds : tie.Need-loop2-holds Inv-loop μ-loop Inv-loop2 μ-loop2
 loop2-holds c =
     let s = c .before in
-    let a = s .before .before .args in
+    let a = s .before .before .before .before .before .args in
     let e : s .loop .i ≡ 10 = omega arith in
     let p = rw e at (s .loop .inv .6) in
     (s .loop .inv .0, s .loop .inv .1, s .loop .inv .3, omega arith, s .loop .inv .5, λ k l. p k l ∙ put-out-past (a .coefficients .now) (a .excitation .now) (a .past .now) k l, rw e at (s .loop .inv .7))
@@ -140,7 +153,7 @@ loop2-again c =
     let f = r .before in
     let t = f .before in
     let s = t .before .before .before .before in
-    let a = s .before .before .before .before .args in
+    let a = s .before .before .before .before .before .before .before .args in
     let cs = a .coefficients .now in
     let xs = a .excitation .now in
     let past = a .past .now in
@@ -166,15 +179,17 @@ loop2-again c =
       rw k (rw m at (below-more ys (10 + n) (s .loop2 .peak) v (omega arith) (s .loop2 .inv .6))),
     )
 
-returns : tie.Need-returns Inv-loop μ-loop Inv-loop2 μ-loop2
-unfolding with-past
-returns c =
+returns-4 : tie.Need-returns-4 Inv-loop μ-loop Inv-loop2 μ-loop2
+unfolding synthesis with-past
+returns-4 c =
     let s = c .before in
-    let a = s .before .before .before .before .args in
+    let b = s .before .before .before .before in
+    let a = b .before .before .before .args in
     let e : s .loop2 .n ≡ 40 = omega arith in
     let p = rw e at (s .loop2 .inv .5) in
     let l = put-out-length (a .coefficients .now) (a .excitation .now) (a .past .now) 40 in
-    ext-getD (pos 0) (s .loop2 .samples) (put-out (a .coefficients .now) (a .excitation .now) (a .past .now) 40) (s .loop2 .inv .4 ∙ sym l) (λ k h. p k (omega arith))
+    rw (eq-eqb _ 11 (b .before .before .if1 .left), eq-eqb _ 40 (b .before .if2 .left), eq-eqb _ 10 (b .if3 .left))
+    (ext-getD (pos 0) (s .loop2 .samples) (put-out (a .coefficients .now) (a .excitation .now) (a .past .now) 40) (s .loop2 .inv .4 ∙ sym l) (λ k h. p k (omega arith)))
 
 pub synthesis-spec : {M : Type 1} → statement M
 synthesis-spec =
@@ -184,6 +199,9 @@ synthesis-spec =
     μ-loop
     Inv-loop2
     μ-loop2
+    returns
+    returns-2
+    returns-3
     reach-requires
     loop-holds
     mul-sample
@@ -210,4 +228,4 @@ synthesis-spec =
     add-n
     loop2-less
     loop2-again
-    returns)
+    returns-4)

@@ -6,11 +6,11 @@ use mir.Syntax.{w16}
 use mir.Val.{toZ, ofZ}
 use Rattle.fixed.proofs.Bounds.{got}
 use Rattle.fixed.specs.Lists.{at}
-use Rattle.encoder_filtering.specs.Plain.{magnitudes}
+use Rattle.filters.specs.Plain.{magnitudes}
 use borrow.Author.Needs.{needs}
 use native.Mathlib.Omega.{arith}
-use Rattle.encoder_filtering.proofs.reach.Statement.{statement}
-use Rattle.encoder_filtering.proofs.reach.Tie as tie
+use Rattle.filters.proofs.reach.Statement.{statement}
+use Rattle.filters.proofs.reach.Tie as tie
 
 abbrev Inv-loop : tie.InvT-loop
 Inv-loop coefficients sum₀ i₀ sum i = (length coefficients ≡ 11) × (i ≤ 10) × (sum ≤ i * 32768) × (sum ≡ magnitudes coefficients i)

@@ -1,8 +1,8 @@
 use Rattle.fixed.proofs.Bounds.{fits-16-32, abs-fits}
 use mir.Facts.{toZ-ofZ}
 use borrow.Author.Needs.{needs}
-use Rattle.encoder_filtering.proofs.magnitude.Statement.{statement}
-use Rattle.encoder_filtering.proofs.magnitude.Tie as tie
+use Rattle.filters.proofs.magnitude.Statement.{statement}
+use Rattle.filters.proofs.magnitude.Tie as tie
 use Rattle.fixed.proofs.unsigned_abs.Reads as unsigned-abs-reads
 
 cast-unsigned-abs : tie.Need-cast-unsigned-abs

@@ -8,11 +8,11 @@ use mir.Val.{toZ, ofZ}
 use mir.Facts.{toZ-ofZ}
 use Rattle.fixed.proofs.Bounds.{got, ok, fits-abs, abs-mul}
 use Rattle.fixed.specs.Lists.{at}
-use Rattle.encoder_filtering.specs.Plain.{weighed}
-use Rattle.encoder_filtering.proofs.Plainly.{tapped, exact-less, exact-above, bound-above, plain-filter}
+use Rattle.filters.specs.Plain.{weighed}
+use Rattle.filters.proofs.Plainly.{tapped, exact-less, exact-above, bound-above, plain-filter}
 use borrow.Author.Needs.{needs}
-use Rattle.encoder_filtering.proofs.plain_sum.Statement.{statement}
-use Rattle.encoder_filtering.proofs.plain_sum.Tie as tie
+use Rattle.filters.proofs.plain_sum.Statement.{statement}
+use Rattle.filters.proofs.plain_sum.Tie as tie
 
 abbrev Inv-loop : tie.InvT-loop
 Inv-loop coefficients excitation samples place sum₀ tap₀ sum tap = (length coefficients ≡ 11) × (10 ≤ place) × (place ≤ 50) × (tap ≤ 10) × (natAbs (toZ w32 sum) + weighed coefficients samples place tap < 2 ^ 30) × (exact-less coefficients samples place (toZ w32 sum) tap ≡ exact-less coefficients samples place (toZ w16 excitation *ℤ at coefficients 0) 10)

@@ -7,12 +7,12 @@ use mir.Val.{toZ, ofZ}
 use Rattle.fixed.proofs.Bounds.{got}
 use Rattle.fixed.specs.Lists.{at, between, L-sum}
 use Rattle.fixed.proofs.Lists.{Filled, filled-all, none-placed, zeros, at-end, placed-more}
-use Rattle.encoder_filtering.specs.Filters.{taps-to}
-use Rattle.encoder_filtering.proofs.Tappings.{taps-more, row-done}
+use Rattle.filters.specs.Filters.{taps-to}
+use Rattle.filters.proofs.Tappings.{taps-more, row-done}
 use borrow.Author.Needs.{needs}
 use native.Mathlib.Omega.{arith}
-use Rattle.encoder_filtering.proofs.tap_sums.Statement.{statement}
-use Rattle.encoder_filtering.proofs.tap_sums.Tie as tie
+use Rattle.filters.proofs.tap_sums.Statement.{statement}
+use Rattle.filters.proofs.tap_sums.Tie as tie
 
 abbrev Inv-loop2 : tie.InvT-loop2
 Inv-loop2 coefficients samples sums₀ tap i₀ sums i = (length coefficients ≡ 11) × (length samples ≡ 50) × (tap < 11) × (i ≤ 40) × (length sums ≡ 40) × Filled (between (λ k. taps-to coefficients samples k (tap + 1)) (λ k. taps-to coefficients samples k tap) 0 i) (pos 0) 40 sums

@@ -11,8 +11,8 @@ use Rattle.fixed.specs.Lists.{at}
 use Rattle.fixed.specs.Operators.{L-mult}
 use Rattle.fixed.proofs.Bounds.{abs-sub, abs-mul}
 use Rattle.fixed.proofs.Plain.{sub-swap, plain-mult, plain-msu}
-use Rattle.encoder_filtering.specs.Filters.{less-past}
-use Rattle.encoder_filtering.specs.Plain.{magnitudes, weighed, Below}
+use Rattle.filters.specs.Filters.{less-past}
+use Rattle.filters.specs.Plain.{magnitudes, weighed, Below}
 
 module _ (cs ys : List ℤ) (place : ℕ) where
   -- the product of tap n + 1

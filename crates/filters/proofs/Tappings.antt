@@ -13,17 +13,7 @@ use borrow.Author.Tests.{le-leb, lt-ltb, ltb-false}
 use Rattle.fixed.specs.Operators.{L-mac, L-mult, L-msu}
 use Rattle.fixed.specs.Lists.{at, part, between, L-sum}
 use Rattle.fixed.proofs.Lists.{Filled, filled-all, length-tabulate, at-tabulate}
-use Rattle.encoder_filtering.specs.Filters.{taps-to, less-past, synthesized, one-more, put-out}
-
--- ---- a list with zeros after it
--- the first m places are those of xs, which ends there; the others are 0, as a list reads past its end
-pub with-zeros : (m n : ℕ) (xs ws : List ℤ) → length xs ≡ m → length ws ≡ n → Filled (between (at xs) (λ k. pos 0) 0 m) (pos 0) n ws → ws ≡ part xs 0 n
-unfolding part
-with-zeros m n xs ws e l p = filled-all (λ k. at xs (0 + k)) (pos 0) n ws l (λ k h. p k h ∙ go k (ltb k m) refl)
-  where
-    go : (k : ℕ) (t : Bool) → ltb k m ≡ t → between (at xs) (λ i. pos 0) 0 m k ≡ at xs (0 + k)
-    go k true q = let z : k ≡ 0 + k = omega arith in rw (le-leb 0 k (omega arith), q) (ap (at xs) z)
-    go k false q = rw (le-leb 0 k (omega arith), q) (sym (List·getD-eq-default xs (pos 0) {n = 0 + k} (omega (arith, ltb-false k m q))))
+use Rattle.filters.specs.Filters.{taps-to, less-past, synthesized, one-more, put-out}
 
 -- ---- Residu with its sums side by side
 module _ (cs xs : List ℤ) where

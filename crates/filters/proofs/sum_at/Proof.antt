@@ -1,4 +1,4 @@
-use Rattle.encoder_filtering.proofs.Plainly.{weighed-le}
+use Rattle.filters.proofs.Plainly.{weighed-le}
 use Rattle.fixed.specs.Lists.{at}
 use mir.Val.{toZ, ofZ}
 use lib.IntN.{_*ℤ_}
@@ -10,10 +10,10 @@ use mir.Syntax.{w16, w32}
 use native.Mathlib.Omega.{arith}
 use native.Mathlib.Nat.{mul-le-mul}
 use borrow.Author.Needs.{needs}
-use Rattle.encoder_filtering.proofs.sum_at.Statement.{statement}
-use Rattle.encoder_filtering.proofs.sum_at.Tie as tie
-use Rattle.encoder_filtering.proofs.clipped_sum.Reads as clipped-sum-reads
-use Rattle.encoder_filtering.proofs.plain_sum.Reads as plain-sum-reads
+use Rattle.filters.proofs.sum_at.Statement.{statement}
+use Rattle.filters.proofs.sum_at.Tie as tie
+use Rattle.filters.proofs.clipped_sum.Reads as clipped-sum-reads
+use Rattle.filters.proofs.plain_sum.Reads as plain-sum-reads
 use Rattle.fixed.proofs.unsigned_abs.Reads as unsigned-abs-reads
 
 shared-slice-copy-out-exact : tie.Need-shared-slice-copy-out-exact

@@ -8,20 +8,20 @@ use mir.Val.{toZ, ofZ}
 use Rattle.fixed.proofs.Bounds.{got}
 use Rattle.fixed.specs.Lists.{at}
 use Rattle.fixed.proofs.Lists.{Filled, filled-more, filled-all}
-use Rattle.encoder_filtering.specs.Filters.{weighted-at, Weight-Ai}
+use Rattle.filters.specs.Filters.{weighted-at, Weight-Ai}
 use borrow.Author.Needs.{needs}
 use native.Mathlib.Omega.{arith}
-use Rattle.encoder_filtering.proofs.weight.Statement.{statement}
-use Rattle.encoder_filtering.proofs.weight.Tie as tie
+use Rattle.filters.proofs.weight.Statement.{statement}
+use Rattle.filters.proofs.weight.Tie as tie
 
 abbrev Inv-loop : tie.InvT-loop
-Inv-loop coefficients factors weighted₀ i₀ weighted i = (length coefficients ≡ 11) × (i ≤ 10) × (length weighted ≡ 11) × Filled (weighted-at coefficients factors) (pos 0) (i + 1) weighted
+Inv-loop coefficients factors weighted₀ i₀ weighted i = (i ≤ 10) × (length weighted ≡ 11) × Filled (weighted-at coefficients factors) (pos 0) (i + 1) weighted
 
 abbrev μ-loop : tie.MeasureT-loop
 μ-loop coefficients factors weighted₀ i₀ weighted i = 10 - i
 
-shared-slice-copy-out-weighted : tie.Need-shared-slice-copy-out-weighted Inv-loop μ-loop
-shared-slice-copy-out-weighted c = search needs
+element-copy-out-weighted : tie.Need-element-copy-out-weighted Inv-loop μ-loop
+element-copy-out-weighted c = search needs
 
 array-set-from-weighted : tie.Need-array-set-from-weighted Inv-loop μ-loop
 array-set-from-weighted c = search needs
@@ -31,7 +31,6 @@ unfolding weighted-at
 loop-holds c =
     let a = c .before .args in
     let v : toZ w16 (ofZ w16 (at (a .coefficients .now) 0)) ≡ at (a .coefficients .now) 0 = got w16 (c .weighted .given) refl in (
-      c .before .pre,
       omega arith,
       refl,
       filled-more (weighted-at (a .coefficients .now) (a .factors .now)) (pos 0) 0 (replicate 11 (pos 0)) (toZ w16 (ofZ w16 (at (a .coefficients .now) 0))) (omega arith) v (λ k l. absurd (omega arith)),
@@ -43,14 +42,14 @@ add-product c = search needs
 mul-product : tie.Need-mul-product Inv-loop μ-loop
 mul-product c = search needs
 
-shared-slice-copy-out-product : tie.Need-shared-slice-copy-out-product Inv-loop μ-loop
-shared-slice-copy-out-product c = search needs
+element-copy-out-product : tie.Need-element-copy-out-product Inv-loop μ-loop
+element-copy-out-product c = search needs
 
 mul-product-2 : tie.Need-mul-product-2 Inv-loop μ-loop
 mul-product-2 c = search needs
 
-element-copy-out-product : tie.Need-element-copy-out-product Inv-loop μ-loop
-element-copy-out-product c = search needs
+element-copy-out-product-2 : tie.Need-element-copy-out-product-2 Inv-loop μ-loop
+element-copy-out-product-2 c = search needs
 
 product-requires : tie.Need-product-requires Inv-loop μ-loop
 product-requires c κs = tt
@@ -86,10 +85,9 @@ loop-again c =
     let x : toZ w16 (ofZ w16 (at cs (i + 1))) ≡ at cs (i + 1) = got w16 (p .before .before .product-arg .given) refl in
     let y : toZ w16 (ofZ w16 (at fs i)) ≡ at fs i = got w16 (p .before .product-arg2 .given) refl in
     let e : v ≡ weighted-at cs fs (i + 1) = rw (got w16 (c .rounded .ok) (c .rounded .ensures), got w32 (p .product .ok) (p .product .ensures), x, y, add-one i) in (
-      s .loop .inv .0,
       omega arith,
-      length-set (s .loop .weighted) (i + 1) v ∙ s .loop .inv .2,
-      filled-more (weighted-at cs fs) (pos 0) (i + 1) (s .loop .weighted) v (omega arith) e (s .loop .inv .3),
+      length-set (s .loop .weighted) (i + 1) v ∙ s .loop .inv .1,
+      filled-more (weighted-at cs fs) (pos 0) (i + 1) (s .loop .weighted) v (omega arith) e (s .loop .inv .2),
     )
 
 returns : tie.Need-returns Inv-loop μ-loop
@@ -98,7 +96,7 @@ returns c =
     let s = c .before in
     let b = s .before .before in
     let e : s .loop .i + 1 ≡ 11 = omega arith in
-    filled-all (weighted-at (b .args .coefficients .now) (b .args .factors .now)) (pos 0) 11 (s .loop .weighted) (s .loop .inv .2) (rw e at (s .loop .inv .3))
+    filled-all (weighted-at (b .args .coefficients .now) (b .args .factors .now)) (pos 0) 11 (s .loop .weighted) (s .loop .inv .1) (rw e at (s .loop .inv .2))
 
 pub weight-spec : {M : Type 1} → statement M
 weight-spec =
@@ -106,14 +104,14 @@ weight-spec =
     (tie.spec
     Inv-loop
     μ-loop
-    shared-slice-copy-out-weighted
+    element-copy-out-weighted
     array-set-from-weighted
     loop-holds
     add-product
     mul-product
-    shared-slice-copy-out-product
-    mul-product-2
     element-copy-out-product
+    mul-product-2
+    element-copy-out-product-2
     product-requires
     rounded-requires
     add-weighted

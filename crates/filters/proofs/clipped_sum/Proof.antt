@@ -7,12 +7,12 @@ use mir.Facts.{toZ-ofZ}
 use Rattle.fixed.proofs.Bounds.{got}
 use Rattle.fixed.specs.Operators.{L-mult}
 use Rattle.fixed.specs.Lists.{at}
-use Rattle.encoder_filtering.specs.Filters.{less-past}
-use Rattle.encoder_filtering.proofs.Tappings.{less-more}
+use Rattle.filters.specs.Filters.{less-past}
+use Rattle.filters.proofs.Tappings.{less-more}
 use borrow.Author.Needs.{needs}
 use native.Mathlib.Omega.{arith}
-use Rattle.encoder_filtering.proofs.clipped_sum.Statement.{statement}
-use Rattle.encoder_filtering.proofs.clipped_sum.Tie as tie
+use Rattle.filters.proofs.clipped_sum.Statement.{statement}
+use Rattle.filters.proofs.clipped_sum.Tie as tie
 
 abbrev Inv-loop : tie.InvT-loop
 Inv-loop coefficients excitation samples place sum₀ tap₀ sum tap = (length coefficients ≡ 11) × (10 ≤ place) × (place ≤ 50) × (tap ≤ 10) × (toZ w32 sum ≡ less-past coefficients samples place (L-mult (toZ w16 excitation) (at coefficients 0)) tap)
