@@ -4,3 +4,4 @@ pub mod Pitches
 pub mod OpenLoops
 pub mod Codebooks
 pub mod Gains
+pub mod Steps

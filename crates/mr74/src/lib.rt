@@ -18,6 +18,9 @@ use pitch_convolution::Convolution;
 use pitch_search::Found;
 use pitch_search::Search;
 use refusal::Refusal;
+use selection::Answer;
+use selection::Selection;
+ghost use mathlib.Core.List.{[]};
 ghost use mathlib.Core.Path.{_≡_};
 ghost use lib.ListN.{length};
 ghost use Rattle.logarithm.specs.Logarithms.{Log2};
@@ -36,6 +39,8 @@ ghost use Rattle.mr74.specs.Crossing.{power-answer};
 ghost use Rattle.mr74.specs.Codebooks.{pulses-answer, places-answer};
 ghost use Rattle.mr74.specs.Gains.{pitch-gain-answer, gain-answer};
 ghost use Rattle.mr74.specs.OpenLoops.{lag-answer, open-loop};
+ghost use Rattle.selection.specs.Lines.{told-answer};
+ghost use Rattle.mr74.specs.Steps.{accepted-line, fields-of, step-answer, crossed-step};
 ghost use Rattle.mr74.specs.Pitches.{fraction-of, subframe-of, lag-of-state, searcher-of, reader-of, fresh-state, accepted-pitch, refused-pitch, pitch-answer, reading-answer, length-answer};
 
 #[repr(C)]
@@ -593,5 +598,194 @@ fn gain_answer(answer: Quantized) -> GainAnswer
                 energy_q10: 0,
             }
         }
+    }
+}
+
+// ---- The feed: one step on the record at a place. Detector, searcher and reader cross as above; the 160 words of a filtering record are lent.
+
+#[repr(C)]
+pub struct StepAnswer {
+    pub number: u8,
+    pub negative: bool,
+    pub magnitude: u64,
+    // The kind, 0 to 6, or 7 where the feed ends; then the fields as the program prints them, zeros behind the last. Those of `filter` are the words.
+    pub line: u8,
+    pub first: i32,
+    pub second: i32,
+    pub third: i32,
+    pub fourth: i32,
+    pub searcher_samples: u16,
+    pub searcher_fraction: i16,
+    pub searcher_next: u8,
+    pub reader_samples: u16,
+    pub reader_fraction: i16,
+    pub reader_next: u8,
+}
+
+#[no_mangle]
+pub extern "C" fn mr74_step(
+    feed: &[u8],
+    at: usize,
+    searcher: PitchState,
+    reader: PitchState,
+    history_q0: &mut [i16],
+    words: &mut [i16],
+) -> StepAnswer
+    ensures { λ r. ⌜ (r ≡ crossed-step (now (feed .entry)) at searcher reader (now («history_q0» .entry)) (now (words .entry)) .answer)
+        × (now («history_q0» .exit) ≡ crossed-step (now (feed .entry)) at searcher reader (now («history_q0» .entry)) (now (words .entry)) .history)
+        × (now (words .exit) ≡ crossed-step (now (feed .entry)) at searcher reader (now («history_q0» .entry)) (now (words .entry)) .words) ⌝ }
+{
+    let search = searcher_of(searcher);
+    let read = reader_of(reader);
+    if history_q0.len() != 143 {
+        let refusal = Refusal::Length(history_q0.len());
+        return step_answer(Answer::Refused(refusal), search, read);
+    }
+    if words.len() != 160 {
+        let refusal = Refusal::Length(words.len());
+        return step_answer(Answer::Refused(refusal), search, read);
+    }
+    let old = history(history_q0);
+    let selection = Selection {
+        detector: Detector { history_q0: old },
+        searcher: search,
+        reader: read,
+    };
+    let stepped = selection::step(selection, feed, at);
+    let answer = stepped.answer;
+    let filtered = stepped.words;
+    let after = stepped.selection;
+    let kept = old_words(after.detector);
+    let kept_words: &[i16] = &kept;
+    let filtered_words: &[i16] = &filtered;
+    fixed::copy(kept_words, history_q0);
+    fixed::copy(filtered_words, words);
+    let search_after = after.searcher;
+    let read_after = after.reader;
+    step_answer(answer, search_after, read_after)
+}
+
+fn old_words(detector: Detector) -> [i16; 143]
+    ensures { λ r. ⌜ r ≡ detector .«history_q0» ⌝ }
+{
+    detector.history_q0
+}
+
+fn searcher_of(state: PitchState) -> Search
+    ensures { λ r. ⌜ r ≡ searcher-of state ⌝ }
+{
+    Search {
+        previous: lag(state),
+        next: subframe_of(state.next),
+    }
+}
+
+fn reader_of(state: PitchState) -> Reader
+    ensures { λ r. ⌜ r ≡ reader-of state ⌝ }
+{
+    Reader {
+        previous: lag(state),
+        next: subframe_of(state.next),
+    }
+}
+
+fn step_answer(answer: Answer, searcher: Search, reader: Reader) -> StepAnswer
+    ensures { λ r. ⌜ r ≡ step-answer (fields-of (told-answer answer [])) searcher reader ⌝ }
+{
+    let fields = fields_of(answer);
+    let searched = searcher.previous;
+    let searched_fraction = searched.fraction;
+    let searcher_next = searcher.next;
+    let read = reader.previous;
+    let read_fraction = read.fraction;
+    let reader_next = reader.next;
+    StepAnswer {
+        number: fields.number,
+        negative: fields.negative,
+        magnitude: fields.magnitude,
+        line: fields.line,
+        first: fields.first,
+        second: fields.second,
+        third: fields.third,
+        fourth: fields.fourth,
+        searcher_samples: searched.samples,
+        searcher_fraction: searched_fraction.thirds(),
+        searcher_next: searcher_next.number(),
+        reader_samples: read.samples,
+        reader_fraction: read_fraction.thirds(),
+        reader_next: reader_next.number(),
+    }
+}
+
+struct Fields {
+    number: u8,
+    negative: bool,
+    magnitude: u64,
+    line: u8,
+    first: i32,
+    second: i32,
+    third: i32,
+    fourth: i32,
+}
+
+fn accepted_line(line: u8, first: i32, second: i32, third: i32, fourth: i32) -> Fields
+    ensures { λ r. ⌜ r ≡ accepted-line line first second third fourth ⌝ }
+{
+    Fields {
+        number: 0,
+        negative: false,
+        magnitude: 0,
+        line,
+        first,
+        second,
+        third,
+        fourth,
+    }
+}
+
+fn fields_of(answer: Answer) -> Fields
+    ensures { λ r. ⌜ r ≡ fields-of (told-answer answer []) ⌝ }
+{
+    match answer {
+        Answer::End => accepted_line(7, 0, 0, 0, 0),
+        Answer::Reset => accepted_line(0, 0, 0, 0, 0),
+        Answer::Open(lag) => accepted_line(1, lag as i32, 0, 0, 0),
+        Answer::Pitch { index, lag, hertz } => {
+            let fraction = lag.fraction;
+            let thirds = fraction.thirds() as i32;
+            accepted_line(2, index as i32, lag.samples as i32, thirds, hertz as i32)
+        }
+        Answer::Pulses(words) => {
+            accepted_line(3, words.positions as i32, words.signs as i32, 0, 0)
+        }
+        Answer::Gain(chosen) => {
+            let row = chosen.row;
+            let pitch = row.pitch_q14 as i32;
+            let correction = row.correction_q12 as i32;
+            accepted_line(4, chosen.index as i32, pitch, correction, 0)
+        }
+        Answer::Filter => accepted_line(5, 0, 0, 0, 0),
+        Answer::Lag { lag, hertz } => {
+            let fraction = lag.fraction;
+            let thirds = fraction.thirds() as i32;
+            accepted_line(6, lag.samples as i32, thirds, hertz as i32, 0)
+        }
+        Answer::Refused(refusal) => refused_line(refusal),
+    }
+}
+
+fn refused_line(refusal: Refusal) -> Fields
+    ensures { λ r. ⌜ r ≡ fields-of (turned-down refusal) ⌝ }
+{
+    let detail = refusal.detail();
+    Fields {
+        number: refusal.number(),
+        negative: detail.negative,
+        magnitude: detail.magnitude,
+        line: 0,
+        first: 0,
+        second: 0,
+        third: 0,
+        fourth: 0,
     }
 }
