@@ -1,2 +1,2 @@
 -- The laws that belong to no one function.
-pub mod Lags
+pub mod Lengths

@@ -9,7 +9,7 @@ use Rattle.fixed.specs.Lists.{at, tabulate, part}
 use Rattle.refusal.specs.Refused.{values}
 use Rattle.refusal.specs.Checks.{Outcome, unless-refused, length-is}
 use Rattle.open_loop.specs.declared.Detector.{Detector}
-use Rattle.open_loop.specs.Sections.{lag-of}
+use Rattle.open_loop_sections.specs.Sections.{lag-of}
 
 -- fresh: all words 0
 unfoldable pub fresh-detector : Detector

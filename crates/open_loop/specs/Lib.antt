@@ -1,4 +1,3 @@
--- The open-loop lag, TS 26.073 Pitch_ol at 7.4 kbit/s: what the contracts of `open_loop` cite.
-pub mod Sections
+-- The open-loop lag detector, TS 26.073 Pitch_ol at 7.4 kbit/s: what the contracts of `open_loop` cite.
 pub mod Detectors
 pub mod Opens

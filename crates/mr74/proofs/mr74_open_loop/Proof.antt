@@ -2,7 +2,7 @@ use borrow.Author.Tests.{ne-eqb, eq-eqb}
 use Rattle.fixed.proofs.Lists.{copied-whole}
 use Rattle.open_loop.specs.declared.Detector.{Detector}
 use Rattle.open_loop.specs.Detectors.{Pitch-ol}
-use Rattle.open_loop.proofs.Lags.{kept-length}
+use Rattle.open_loop.proofs.Lengths.{kept-length}
 use Rattle.mr74.specs.OpenLoops.{open-loop}
 use borrow.Author.Needs.{needs}
 use Rattle.mr74.proofs.mr74_open_loop.Statement.{statement}

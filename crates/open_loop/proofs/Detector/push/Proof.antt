@@ -1,13 +1,12 @@
 use Rattle.open_loop.specs.Detectors.{joined, Pitch-ol}
-use Rattle.open_loop.specs.Sections.{lag-of}
-use Rattle.open_loop.proofs.Lags.{lag-in}
+use Rattle.open_loop_sections.specs.Sections.{lag-of}
+use Rattle.open_loop_sections.proofs.Lags.{lag-in}
 use Prim.Native.Nat.{_≤_}
 use native.Mathlib.Omega.{arith}
 use borrow.Author.Tests.{ne-eqb, eq-eqb, le-leb}
 use borrow.Author.Needs.{needs}
 use Rattle.open_loop.proofs.Detector.push.Statement.{statement}
 use Rattle.open_loop.proofs.Detector.push.Tie as tie
-use Rattle.open_loop.proofs.lag_of.Reads as lag-of-reads
 use Rattle.pitch.proofs.OpenLoopLag.try_new.Reads as try-new-reads
 
 returns : tie.Need-returns

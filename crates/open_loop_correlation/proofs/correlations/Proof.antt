@@ -1,5 +1,5 @@
-use Rattle.open_loop.proofs.Lags.{Placed, placed-next}
-use Rattle.open_loop.specs.declared.Four.{Four}
+use Rattle.open_loop_correlation.proofs.Lags.{Placed, placed-next}
+use Rattle.open_loop_correlation.specs.declared.Four.{Four}
 use lib.ListN.{set, replicate}
 use mathlib.Core.Path.{ap, _≡_, refl}
 use Prim.Native.Nat.{_≤_, _-_, _+_, _%_}
@@ -9,12 +9,12 @@ use mir.Val.{toZ, ofZ}
 use Rattle.fixed.specs.Lists.{between}
 use Rattle.fixed.proofs.Bounds.{got}
 use Rattle.fixed.proofs.Lists.{filled-all, none-placed, zeros}
-use Rattle.open_loop.specs.Sections.{correlation}
+use Rattle.open_loop_correlation.specs.Correlations.{correlation}
 use borrow.Author.Needs.{needs}
 use native.Mathlib.Omega.{arith}
-use Rattle.open_loop.proofs.correlations.Statement.{statement}
-use Rattle.open_loop.proofs.correlations.Tie as tie
-use Rattle.open_loop.proofs.four_at.Reads as four-at-reads
+use Rattle.open_loop_correlation.proofs.correlations.Statement.{statement}
+use Rattle.open_loop_correlation.proofs.correlations.Tie as tie
+use Rattle.open_loop_correlation.proofs.four_at.Reads as four-at-reads
 
 abbrev Inv-loop : tie.InvT-loop
 Inv-loop words table₀ lag₀ table lag = (20 ≤ lag) × (lag ≤ 144) × (lag % 4 ≡ 0) × Placed words lag table

@@ -9,8 +9,8 @@ use Rattle.fixed.proofs.Bounds.{got}
 use Rattle.fixed.proofs.Choices.{best-more}
 use borrow.Author.Needs.{needs}
 use native.Mathlib.Omega.{arith}
-use Rattle.open_loop.proofs.best_lag.Statement.{statement}
-use Rattle.open_loop.proofs.best_lag.Tie as tie
+use Rattle.open_loop_sections.proofs.best_lag.Statement.{statement}
+use Rattle.open_loop_sections.proofs.best_lag.Tie as tie
 
 abbrev Inv-loop : tie.InvT-loop
 Inv-loop table low span lag₀ i₀ lag i = (low + span ≤ 143) × (i ≤ span) × (lag ≤ low + i) × (lag ≡ best ltZ (at table) low i)

@@ -1,17 +1,14 @@
 -- TS 26.073 Pitch_ol: the lag of 223 words, 143 old ones and a half frame's 80 after them.
 use mathlib.Core.Bool.{cond}
 use mathlib.Core.List.{List}
-use Prim.Native.Nat.{ℕ, _+_, _-_}
+use Prim.Native.Nat.{ℕ, _-_}
 use lib.IntN.{ℤ, pos, negsuc}
 use lib.Signed.{ltZ, leZ}
-use Rattle.fixed.specs.Operators.{L-mult, shl, mult, extract-l, Mpy-32}
-use Rattle.fixed.specs.Lists.{at, tabulate, between, L-sum, best}
+use Rattle.fixed.specs.Operators.{shl, mult, extract-l, Mpy-32}
+use Rattle.fixed.specs.Lists.{at, tabulate, best}
 use Rattle.energy.specs.Root.{Inv-sqrt}
-use Rattle.open_loop.specs.declared.Held.{Held}
-
--- n words from place a on against those from place b on: L_mac in a loop
-unfoldable pub products : List ℤ → ℕ → ℕ → ℕ → ℤ
-products xs a b n = L-sum (pos 0) (λ k. L-mult (at xs (a + k)) (at xs (b + k))) n
+use Rattle.open_loop_correlation.specs.Correlations.{products, correlation}
+use Rattle.open_loop_sections.specs.declared.Held.{Held}
 
 -- Pitch_ol, 'Scaling of input signal'; 01: 'Total energy at the clip: every word shifted right by 3; below 1048576: left by 3, clipped'
 abbrev pub scaled : ℤ → ℤ → ℤ
@@ -20,14 +17,6 @@ scaled energy v = cond (leZ (pos 2147483647) energy) (shl v (negsuc 2)) (cond (l
 -- and so every word
 unfoldable pub scaled-all : List ℤ → List ℤ
 scaled-all xs = tabulate (λ k. scaled (products xs 0 0 223) (at xs k)) 223
-
--- comp_corr: the new words against those `lag` places before them
-unfoldable pub correlation : List ℤ → ℕ → ℤ
-correlation xs lag = products xs 143 (143 - lag) 80
-
--- comp_corr, corr[-lag]: by the lag, places 20 to 143 of a list of 144
-abbrev pub by-lag : List ℤ → List ℤ
-by-lag xs = tabulate (between (correlation xs) (λ k. pos 0) 20 144) 144
 
 -- Lag_max, 'compute energy': of the words `lag` places before the new ones
 unfoldable pub delayed-energy : List ℤ → ℕ → ℤ

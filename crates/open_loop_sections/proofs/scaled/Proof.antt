@@ -2,28 +2,22 @@ use mir.Syntax.{w16}
 use mir.Facts.{toZ-ofZ}
 use Rattle.fixed.proofs.Bounds.{got}
 use borrow.Author.Needs.{needs}
-use Rattle.open_loop.proofs.scaled.Statement.{statement}
-use Rattle.open_loop.proofs.scaled.Tie as tie
-use Rattle.open_loop.proofs.scaled.Reads as reads
-use Rattle.open_loop.proofs.scaled.Lts as lts
+use Rattle.open_loop_sections.proofs.scaled.Statement.{statement}
+use Rattle.open_loop_sections.proofs.scaled.Tie as tie
 use Rattle.fixed.proofs.shift_word.Reads as shift-word-reads
 
--- src/lib.rt:125:9
 shift-word-requires : tie.Need-shift-word-requires
 shift-word-requires c κs = search needs
 
--- src/lib.rt:125:9
 returns : tie.Need-returns
 returns c =
     let b = c .before .before in
     let t = rw (toZ-ofZ (b .fits .energy)) at (c .before .if1 .taken) in
     rw (t, got w16 (c .shift-word .ok) (c .shift-word .ensures), toZ-ofZ (b .fits .v))
 
--- src/lib.rt:128:9
 shift-word-requires-2 : tie.Need-shift-word-requires-2
 shift-word-requires-2 c κs = search needs
 
--- src/lib.rt:128:9
 returns-2 : tie.Need-returns-2
 returns-2 c =
     let b = c .before .before .before in
@@ -31,7 +25,6 @@ returns-2 c =
     let u = rw (toZ-ofZ (b .fits .energy)) at (c .before .if2 .taken) in
     rw (t, u, got w16 (c .shift-word2 .ok) (c .shift-word2 .ensures), toZ-ofZ (b .fits .v))
 
--- src/lib.rt:121:1
 returns-3 : tie.Need-returns-3
 returns-3 c =
     let b = c .before .before in

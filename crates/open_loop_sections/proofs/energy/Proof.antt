@@ -1,15 +1,15 @@
-use Rattle.open_loop.proofs.Lags.{products-more}
+use Rattle.open_loop_correlation.proofs.Lags.{products-more}
 use mathlib.Core.Path.{_≡_, refl}
 use Prim.Native.Nat.{_≤_, _-_, _+_}
 use mir.Syntax.{w16, w32}
 use mir.Val.{toZ}
 use Rattle.fixed.specs.Lists.{L-sum}
 use Rattle.fixed.proofs.Bounds.{got}
-use Rattle.open_loop.specs.Sections.{products}
+use Rattle.open_loop_correlation.specs.Correlations.{products}
 use borrow.Author.Needs.{needs}
 use native.Mathlib.Omega.{arith}
-use Rattle.open_loop.proofs.energy.Statement.{statement}
-use Rattle.open_loop.proofs.energy.Tie as tie
+use Rattle.open_loop_sections.proofs.energy.Statement.{statement}
+use Rattle.open_loop_sections.proofs.energy.Tie as tie
 
 abbrev Inv-loop : tie.InvT-loop
 Inv-loop words from count sum₀ i₀ sum i = (from + count ≤ 223) × (i ≤ count) × (toZ w32 sum ≡ products words from from i)

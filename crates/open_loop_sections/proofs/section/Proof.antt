@@ -1,4 +1,4 @@
-use Rattle.open_loop.specs.Sections.{Lag-max, delayed-energy, value-at}
+use Rattle.open_loop_sections.specs.Sections.{Lag-max, delayed-energy, value-at}
 use Rattle.fixed.proofs.Choices.{best-in}
 use Rattle.fixed.specs.Lists.{at}
 use lib.Signed.{ltZ}
@@ -7,13 +7,14 @@ use mathlib.Core.Path.{_∙_, _≡_, refl}
 use Prim.Native.Nat.{_≤_}
 use mir.Syntax.{w16, w32}
 use Rattle.fixed.proofs.Bounds.{got}
-use Rattle.open_loop.proofs.Lags.{at-lag, lag-max-table, lag-max-in}
+use Rattle.open_loop_correlation.proofs.Lags.{at-lag}
+use Rattle.open_loop_sections.proofs.Lags.{lag-max-table, lag-max-in}
 use borrow.Author.Needs.{needs}
-use Rattle.open_loop.proofs.section.Statement.{statement}
-use Rattle.open_loop.proofs.section.Tie as tie
+use Rattle.open_loop_sections.proofs.section.Statement.{statement}
+use Rattle.open_loop_sections.proofs.section.Tie as tie
 use Rattle.energy.proofs.inverse_sqrt.Reads as inverse-sqrt-reads
 use Rattle.fixed.proofs.low_word.Reads as low-word-reads
-use Rattle.open_loop.proofs.best_lag.Reads as best-lag-reads
+use Rattle.open_loop_sections.proofs.best_lag.Reads as best-lag-reads
 
 best-lag-requires : tie.Need-best-lag-requires
 best-lag-requires c κs = search needs

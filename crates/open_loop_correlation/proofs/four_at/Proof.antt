@@ -1,15 +1,15 @@
-use Rattle.open_loop.proofs.Lags.{products-more}
+use Rattle.open_loop_correlation.proofs.Lags.{products-more}
 use Rattle.fixed.proofs.Bounds.{got}
 use Rattle.fixed.specs.Lists.{at, L-sum}
 use mir.Val.{ofZ, toZ}
 use mathlib.Core.Path.{ap, _≡_, refl}
-use Rattle.open_loop.specs.Sections.{correlation, products}
+use Rattle.open_loop_correlation.specs.Correlations.{correlation, products}
 use Prim.Native.Nat.{_≤_, _-_, _+_}
 use mir.Syntax.{w16, w32}
 use borrow.Author.Needs.{needs}
 use native.Mathlib.Omega.{arith}
-use Rattle.open_loop.proofs.four_at.Statement.{statement}
-use Rattle.open_loop.proofs.four_at.Tie as tie
+use Rattle.open_loop_correlation.proofs.four_at.Statement.{statement}
+use Rattle.open_loop_correlation.proofs.four_at.Tie as tie
 
 abbrev Inv-loop : tie.InvT-loop
 Inv-loop words lag a₀ b₀ c₀ d₀ i₀ a b c d i = (lag + 3 ≤ 143) × (i ≤ 80) × (toZ w32 a ≡ products words 143 (143 - lag) i) × (toZ w32 b ≡ products words 143 (143 - (lag + 1)) i) × (toZ w32 c ≡ products words 143 (143 - (lag + 2)) i) × (toZ w32 d ≡ products words 143 (143 - (lag + 3)) i)

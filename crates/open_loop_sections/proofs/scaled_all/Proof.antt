@@ -7,11 +7,12 @@ use mir.Syntax.{w16, w32}
 use Rattle.fixed.proofs.Bounds.{got}
 use Rattle.fixed.specs.Lists.{at}
 use Rattle.fixed.proofs.Lists.{Filled, filled-more, filled-all}
-use Rattle.open_loop.specs.Sections.{products, scaled, scaled-all}
+use Rattle.open_loop_correlation.specs.Correlations.{products}
+use Rattle.open_loop_sections.specs.Sections.{scaled, scaled-all}
 use borrow.Author.Needs.{needs}
 use native.Mathlib.Omega.{arith}
-use Rattle.open_loop.proofs.scaled_all.Statement.{statement}
-use Rattle.open_loop.proofs.scaled_all.Tie as tie
+use Rattle.open_loop_sections.proofs.scaled_all.Statement.{statement}
+use Rattle.open_loop_sections.proofs.scaled_all.Tie as tie
 
 abbrev Inv-loop : tie.InvT-loop
 Inv-loop input energy words₀ i₀ words i = (i ≤ 223) × (toZ w32 energy ≡ products input 0 0 223) × (length words ≡ 223) × Filled (λ k. scaled (toZ w32 energy) (at input k)) (pos 0) i words

@@ -2,24 +2,19 @@ use mathlib.Core.Path.{refl}
 use Rattle.fixed.proofs.Bounds.{got}
 use mir.Syntax.{w16}
 use borrow.Author.Needs.{needs}
-use Rattle.open_loop.proofs.favoured.Statement.{statement}
-use Rattle.open_loop.proofs.favoured.Tie as tie
-use Rattle.open_loop.proofs.favoured.Reads as reads
-use Rattle.open_loop.proofs.favoured.Lts as lts
+use Rattle.open_loop_sections.proofs.favoured.Statement.{statement}
+use Rattle.open_loop_sections.proofs.favoured.Tie as tie
 use Rattle.fixed.proofs.fractional.Reads as fractional-reads
 
--- src/lib.rt:240:8
 fractional-requires : tie.Need-fractional-requires
 fractional-requires c κs = search needs
 
--- src/lib.rt:241:9
 returns : tie.Need-returns
 returns c =
     let f = c .before .before .before in
     let t = rw (got w16 (f .fractional .ok) (f .fractional .ensures), got w16 (f .before .struct-told .given .1 .0 .1) refl, got w16 (c .before .struct-told2 .given .1 .0 .1) refl) at (c .if1 .taken) in
     rw t
 
--- src/lib.rt:237:1
 returns-2 : tie.Need-returns-2
 returns-2 c =
     let f = c .before .before .before in

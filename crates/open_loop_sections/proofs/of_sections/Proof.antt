@@ -1,36 +1,28 @@
-use Rattle.open_loop.specs.Sections.{held-at, Lag-max, favoured, of-sections}
+use Rattle.open_loop_sections.specs.Sections.{held-at, Lag-max, favoured, of-sections}
 use mathlib.Core.Path.{_≡_, ap}
-use Rattle.open_loop.proofs.Lags.{favoured-held}
-use Rattle.open_loop.specs.declared.Held.{Held}
+use Rattle.open_loop_sections.proofs.Lags.{favoured-held}
+use Rattle.open_loop_sections.specs.declared.Held.{Held}
 use borrow.Author.Needs.{needs}
-use Rattle.open_loop.proofs.of_sections.Statement.{statement}
-use Rattle.open_loop.proofs.of_sections.Tie as tie
-use Rattle.open_loop.proofs.of_sections.Reads as reads
-use Rattle.open_loop.proofs.of_sections.Lts as lts
-use Rattle.open_loop.proofs.favoured.Reads as favoured-reads
-use Rattle.open_loop.proofs.section.Reads as section-reads
+use Rattle.open_loop_sections.proofs.of_sections.Statement.{statement}
+use Rattle.open_loop_sections.proofs.of_sections.Tie as tie
+use Rattle.open_loop_sections.proofs.favoured.Reads as favoured-reads
+use Rattle.open_loop_sections.proofs.section.Reads as section-reads
 
--- src/lib.rt:197:9
 section-requires : tie.Need-section-requires
 section-requires c κs = search needs
 
--- src/lib.rt:198:9
 section-requires-2 : tie.Need-section-requires-2
 section-requires-2 c κs = search needs
 
--- src/lib.rt:199:9
 section-requires-3 : tie.Need-section-requires-3
 section-requires-3 c κs = search needs
 
--- src/lib.rt:200:14
 favoured-requires : tie.Need-favoured-requires
 favoured-requires c κs = search needs
 
--- src/lib.rt:200:5
 favoured-requires-2 : tie.Need-favoured-requires-2
 favoured-requires-2 c κs = search needs
 
--- src/lib.rt:193:1
 returns : tie.Need-returns
 unfolding of-sections
 returns c =
