@@ -125,7 +125,7 @@ pub fn step(record: &Record) -> Option<Step> {
 }
 
 /// The call of a pitch record: subframe, excitation, target, impulse response, two lags.
-fn recorded(body: &[u8]) -> Call {
+pub fn recorded(body: &[u8]) -> Call {
     let (words, lags) = body[1..].split_at(2 * (EXCITATION + 2 * SUBFRAME));
     let words = feed::words(words);
     let (excitation, rest) = words.split_at(EXCITATION);

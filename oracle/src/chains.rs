@@ -114,7 +114,7 @@ impl<'a> Chain<'a> {
     }
 
     /// A call that is accepted.
-    fn call(&mut self, search: &Search) -> Call {
+    pub fn call(&mut self, search: &Search) -> Call {
         let random = &mut self.random;
         let mut open_loop = [open_loop(random), open_loop(random)];
         let (excitation, target, impulse) = match &mut self.source {

@@ -98,10 +98,17 @@ impl Line {
         ours: &dyn Debug,
         other: &dyn Debug,
     ) {
+        self.tell_difference(index, || {
+            format!("{input:?}: library {ours:?}, expected {other:?}")
+        });
+    }
+
+    /// A difference that is told in these words.
+    #[cold]
+    pub fn tell_difference(&mut self, index: u64, text: impl FnOnce() -> String) {
         self.differ += 1;
         if self.shown.len() < SHOWN {
-            let text = format!("{input:?}: library {ours:?}, expected {other:?}");
-            self.shown.push((index, text));
+            self.shown.push((index, text()));
         }
     }
 

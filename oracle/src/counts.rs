@@ -52,7 +52,11 @@ impl<C: Counted> Cases<C> {
     }
 
     pub fn add(&mut self, part: Self) {
-        for (count, part) in self.0.iter_mut().zip(part.0) {
+        self.add_counts(&part);
+    }
+
+    pub fn add_counts(&mut self, part: &Self) {
+        for (count, part) in self.0.iter_mut().zip(&part.0) {
             *count += part;
         }
     }

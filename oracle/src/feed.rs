@@ -8,11 +8,26 @@ const FEED: &str = concat!(
 );
 
 /// The length of a body by the record's kind.
-const BODIES: [usize; 7] = [0, 160, 551, 163, 245, 184, 2];
+pub const BODIES: [usize; 7] = [0, 160, 551, 163, 245, 184, 2];
 
+#[derive(Clone)]
 pub struct Record {
     pub kind: u8,
     pub body: Vec<u8>,
+}
+
+fn path() -> PathBuf {
+    let path = env::var_os("MR74_FEED").filter(|path| !path.is_empty());
+    path.map_or(PathBuf::from(FEED), PathBuf::from)
+}
+
+/// The feed as it stands; empty where there is no such file.
+pub fn sample_bytes() -> Vec<u8> {
+    let path = path();
+    match fs::read(&path) {
+        Err(error) if error.kind() == io::ErrorKind::NotFound => Vec::new(),
+        feed => feed.unwrap_or_else(|error| panic!("{}: {error}", path.display())),
+    }
 }
 
 /// What is made of the feed's records, in order. Nothing where there is no such file, or where no
@@ -22,13 +37,8 @@ pub fn steps<S>(
     step: impl Fn(&Record) -> Option<S>,
     needed: impl Fn(&S) -> bool,
 ) -> Vec<S> {
-    let path = env::var_os("MR74_FEED").filter(|path| !path.is_empty());
-    let path = path.map_or(PathBuf::from(FEED), PathBuf::from);
-    let feed = match fs::read(&path) {
-        Err(error) if error.kind() == io::ErrorKind::NotFound => Vec::new(),
-        feed => feed.unwrap_or_else(|error| panic!("{}: {error}", path.display())),
-    };
-    let steps: Vec<S> = records(&feed)
+    let path = path();
+    let steps: Vec<S> = records(&sample_bytes())
         .unwrap_or_else(|| {
             panic!(
                 "{}: a feed with a bad kind or an incomplete record",

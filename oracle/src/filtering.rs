@@ -15,9 +15,8 @@ use crate::{
     feed,
     words::SUBFRAME,
 };
-pub use calls::Call;
-use sources::Drawn;
-pub use sources::{loud_call, speech_call};
+pub use calls::{Call, recorded};
+pub use sources::{Drawn, loud_call, speech_call};
 
 /// The words before those that are filtered, and the coefficients of a filter.
 const ORDER: usize = 10;

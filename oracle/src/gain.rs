@@ -14,14 +14,13 @@ mod sources;
 mod ties;
 mod wished;
 
-pub use calls::Call;
-pub use sources::{loud_call, speech_call};
+pub use calls::{Call, SignedRefusal, recorded};
+pub use sources::{Drawn, loud_call, speech_call};
 
 use crate::{
     compare::{Function, Line, in_threads},
     feed,
 };
-use sources::Drawn;
 
 /// The calls that each function is compared on and that are accepted.
 const ACCEPTED: u64 = 1_200_000;

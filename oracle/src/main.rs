@@ -24,6 +24,7 @@ mod pulses;
 mod reader;
 mod record;
 mod search;
+mod selection;
 mod speech;
 mod speed;
 mod subframes;
@@ -34,13 +35,14 @@ mod words;
 use published::codec;
 
 use std::{
-    env,
-    io::{self, Write},
+    env, fs,
+    io::{self, Read, Write},
     path::Path,
     process::ExitCode,
 };
 
-const USAGE: &str = "usage: oracle [compare NAME.. | record [FOLDER] | speed]";
+const USAGE: &str = "usage: oracle [compare NAME.. | select [RECORDS] | answers [FEED] | \
+                     feed NAME RECORDS [SEED] | record [FOLDER] | speed]";
 const RECORD_FOLDER: &str = concat!(env!("CARGO_MANIFEST_DIR"), "/../crates");
 
 const DIFFERENT: u8 = 1;
@@ -52,6 +54,12 @@ fn main() -> ExitCode {
     let done = match words.as_slice() {
         [] => compare_functions(&[]),
         ["compare", names @ ..] => compare_functions(names),
+        ["select"] => compare_select(SELECT_RECORDS),
+        ["select", records] => number(records).and_then(compare_select),
+        ["answers"] => print_answers(None),
+        ["answers", feed] => print_answers(Some(feed)),
+        ["feed", name, records] => write_feed(name, records, "0"),
+        ["feed", name, records, seed] => write_feed(name, records, seed),
         ["record"] => record_samples(RECORD_FOLDER),
         ["record", folder] => record_samples(folder),
         ["speed"] => {
@@ -65,6 +73,9 @@ fn main() -> ExitCode {
         ExitCode::from(UNUSABLE)
     })
 }
+
+/// The records that `select` is compared on.
+const SELECT_RECORDS: u64 = 10_000_000;
 
 /// Compares the named functions, or all where none is named.
 fn compare_functions(names: &[&str]) -> Result<ExitCode, String> {
@@ -96,12 +107,51 @@ fn compare_functions(names: &[&str]) -> Result<ExitCode, String> {
         }
         io::stdout().flush().map_err(|error| error.to_string())?;
     }
+    Ok(told(compared, differ))
+}
+
+/// Tells what all comparisons came to.
+fn told(compared: u64, differ: u64) -> ExitCode {
     println!("{compared} compared, {differ} differ");
-    Ok(if differ == 0 {
+    if differ == 0 {
         ExitCode::SUCCESS
     } else {
         ExitCode::from(DIFFERENT)
-    })
+    }
+}
+
+fn number(text: &str) -> Result<u64, String> {
+    text.parse().map_err(|error| format!("{text}: {error}"))
+}
+
+/// Compares the program `select` on so many records.
+fn compare_select(records: u64) -> Result<ExitCode, String> {
+    let mut compared = 0;
+    let mut differ = 0;
+    for line in selection::compare(records, &selection::sample())? {
+        compared += line.compared;
+        differ += line.differ;
+        println!("select {line}");
+    }
+    Ok(told(compared, differ))
+}
+
+/// Prints what `select` has to print for a feed: that of the file, else that of standard input.
+fn print_answers(file: Option<&str>) -> Result<ExitCode, String> {
+    let mut feed = Vec::new();
+    let read = match file {
+        Some(file) => fs::read(file).map(|bytes| feed = bytes),
+        None => io::stdin().read_to_end(&mut feed).map(|_| ()),
+    };
+    read.map_err(|error| format!("{}: {error}", file.unwrap_or("standard input")))?;
+    print!("{}", selection::printed(&feed));
+    Ok(ExitCode::SUCCESS)
+}
+
+fn write_feed(name: &str, records: &str, seed: &str) -> Result<ExitCode, String> {
+    let (records, seed) = (number(records)?, number(seed)?);
+    selection::write_feed(&mut io::stdout(), name, records, seed)?;
+    Ok(ExitCode::SUCCESS)
 }
 
 /// Writes each replay program's sample to the program's folder below this one.

@@ -5,6 +5,8 @@ mod chains;
 mod pushes;
 pub mod record;
 
+pub use chains::Chain;
+
 use crate::{
     codec::mr74::pitch::open_loop::Detector,
     compare::{Function, Line, in_threads},
@@ -16,7 +18,6 @@ use crate::{
     words::shortened,
 };
 use cases::{Case, Pushed};
-use chains::Chain;
 use pushes::{Push, Step, step};
 use std::fmt;
 

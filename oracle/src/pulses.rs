@@ -12,8 +12,8 @@ mod search;
 mod sources;
 mod starts;
 
-pub use calls::Call;
-pub use sources::{full_scale_call, speech_call};
+pub use calls::{Call, recorded};
+pub use sources::{Drawn, GAINS, full_scale_call, speech_call};
 
 use crate::compare::Function;
 

@@ -8,12 +8,13 @@ use crate::{
     subframes::{Refusal, answer, pitch_state, subframe},
 };
 
+/// A call of the reader, and the state that it is in.
 #[derive(Debug, Clone, Copy)]
-struct Reading {
-    previous: PitchLag,
-    expected: u8,
-    subframe: u8,
-    index: u8,
+pub struct Reading {
+    pub previous: PitchLag,
+    pub expected: u8,
+    pub subframe: u8,
+    pub index: u8,
 }
 
 impl Reading {
@@ -106,7 +107,8 @@ fn expected(reading: Reading) -> PitchAnswer {
     answer(lag.map(|lag| (0, lag)), after)
 }
 
-fn read(reading: Reading) -> Result<PitchLag, Refusal> {
+/// The published lag, by the rule of 01 for the subframe.
+pub fn read(reading: Reading) -> Result<PitchLag, Refusal> {
     let received = subframe(reading.subframe)?;
     if reading.subframe != reading.expected {
         return Err(Refusal {

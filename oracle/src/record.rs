@@ -14,7 +14,11 @@ use crate::{
     inputs::{Argument, Random},
     published,
 };
-use std::{fmt::Display, fs, io, path::Path};
+use std::{
+    fmt::{Display, Write},
+    fs, io,
+    path::Path,
+};
 
 const TITLE: &str = "mr74 replay\n";
 const ARGUMENTS: usize = 3;
@@ -46,7 +50,7 @@ pub fn write_files(folder: &Path, stdin: &[u8], stdout: &str) -> io::Result<()> 
 pub fn push_line(lines: &mut String, name: &str, numbers: impl IntoIterator<Item: Display>) {
     lines.push_str(name);
     for number in numbers {
-        lines.push_str(&format!(" {number}"));
+        write!(lines, " {number}").expect("a string takes any text");
     }
     lines.push('\n');
 }

@@ -168,7 +168,7 @@ fn expected(cases: &mut Cases<Case>, case: Case, search: &mut Search, call: &Cal
 }
 
 /// The published search, with the checks of 01 that its types make needless.
-fn published<'a>(
+pub fn published<'a>(
     before: &'a Search,
     search: &mut Search,
     call: &'a Call,

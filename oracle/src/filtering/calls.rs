@@ -55,16 +55,18 @@ pub fn joined(before: &[i16; ORDER], words: &[i16; SUBFRAME]) -> [i16; INPUT] {
 
 /// The call of a feed's filtering record, of no other.
 pub fn call(record: &Record) -> Option<Call> {
-    if record.kind != 5 {
-        return None;
-    }
-    let words = feed::words(&record.body);
+    (record.kind == 5).then(|| recorded(&record.body))
+}
+
+/// The call of a filtering record.
+pub fn recorded(body: &[u8]) -> Call {
+    let words = feed::words(body);
     let mut rest = words.as_slice();
-    Some(Call {
+    Call {
         speech: taken(&mut rest),
         coefficients: taken(&mut rest),
         quantized: taken(&mut rest),
         error_history: taken(&mut rest),
         weighting_history: taken(&mut rest),
-    })
+    }
 }

@@ -170,14 +170,19 @@ pub fn call(record: &Record) -> Option<Call> {
     if record.kind != 4 {
         return None;
     }
-    let (words, choice) = record.body.split_at(record.body.len() - 1);
+    recorded(&record.body).ok()
+}
+
+/// The call of a gain record: target, adaptive words, filtered innovation, exponent, fraction, limit.
+pub fn recorded(body: &[u8]) -> Result<Call, SignedRefusal> {
+    let (words, choice) = body.split_at(body.len() - 1);
     let words = feed::words(words);
     let mut words = words.as_slice();
     let [target, adaptive, filtered] = [(); LISTS].map(|()| taken(&mut words));
     let [exponent, fraction] = taken(&mut words);
     let fraction = fraction as u16;
-    let limit = checked([SUBFRAME; LISTS], exponent, fraction, choice[0]).ok()?;
-    Some(Call {
+    let limit = checked([SUBFRAME; LISTS], exponent, fraction, choice[0])?;
+    Ok(Call {
         target,
         adaptive,
         filtered,

@@ -99,7 +99,12 @@ pub fn call(record: &Record) -> Option<Call> {
     if record.kind != 3 {
         return None;
     }
-    let (lists, rest) = record.body.split_at(4 * SUBFRAME);
+    recorded(&record.body).ok()
+}
+
+/// The call of a pulse record: target, impulse response, lag, gain.
+pub fn recorded(body: &[u8]) -> Result<Call, Refusal> {
+    let (lists, rest) = body.split_at(4 * SUBFRAME);
     let words = feed::words(lists);
     let mut words = words.as_slice();
     let call = Call {
@@ -108,5 +113,6 @@ pub fn call(record: &Record) -> Option<Call> {
         lag: rest[0].into(),
         gain: i16::from_be_bytes([rest[1], rest[2]]),
     };
-    LAGS.contains(&call.lag).then_some(call)
+    checked([SUBFRAME; LISTS], call.lag)?;
+    Ok(call)
 }

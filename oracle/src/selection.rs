@@ -1,0 +1,49 @@
+//! The selection feed: read by the rules of 01 with the stages of the published Rust, drawn, and
+//! compared with the program `select`.
+
+mod answers;
+mod bodies;
+mod compare;
+mod drawn;
+mod encoder;
+mod feeds;
+mod program;
+mod stages;
+
+pub use answers::printed;
+pub use compare::compare;
+
+use crate::feed::{self, Record};
+use feeds::{Feed, NAMES, Parts};
+use std::io::{self, Write};
+
+/// The sample's records; none where there is no sample.
+pub fn sample() -> Vec<Record> {
+    feed::steps("records", |record| Some(record.clone()), |_| true)
+}
+
+/// Writes the feed of this name, of so many records.
+pub fn write_feed(
+    output: &mut impl Write,
+    name: &str,
+    records: u64,
+    seed: u64,
+) -> Result<(), String> {
+    let Some(&(_, name)) = NAMES.iter().find(|(known, _)| *known == name) else {
+        let known = NAMES.map(|(known, _)| known).join(" ");
+        return Err(format!("no feed {name}; known: {known}"));
+    };
+    let feed = Feed {
+        name,
+        records,
+        seed,
+    };
+    for part in Parts::new(feed, &sample()) {
+        match output.write_all(&part.bytes) {
+            // A reader that has what it wanted.
+            Err(error) if error.kind() == io::ErrorKind::BrokenPipe => return Ok(()),
+            written => written.map_err(|error| error.to_string())?,
+        }
+    }
+    Ok(())
+}

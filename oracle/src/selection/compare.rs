@@ -1,0 +1,144 @@
+//! The comparison of the program `select` with the published Rust.
+
+use super::{
+    answers::Case,
+    feeds::{ENDS, Feed, Name, Part, Parts, given},
+    program,
+};
+use crate::{
+    compare::{Line, in_threads},
+    counts::Cases,
+    feed::{Record, sample_bytes},
+};
+use std::{env, fmt::Display, path::PathBuf};
+
+const PROGRAM: &str = concat!(env!("CARGO_MANIFEST_DIR"), "/../target/bin/select");
+
+/// The records of a feed, and the parts that the feeds of each name have of all records.
+const FEED_RECORDS: u64 = 50_000;
+const SHARES: [Name; 5] = [
+    Name::Mixed,
+    Name::Extreme,
+    Name::Speech,
+    Name::Mixed,
+    Name::Speech,
+];
+
+/// How often each end of a truncated feed is taken.
+const ROUNDS: u64 = 13;
+
+/// What was compared, and which answers were met.
+struct Tally {
+    lines: Line,
+    cases: Cases<Case>,
+}
+
+impl Tally {
+    fn new() -> Self {
+        Self {
+            lines: Line::new("published Rust, lines"),
+            cases: Cases::new(),
+        }
+    }
+
+    fn add(&mut self, part: Self) {
+        self.lines.add(part.lines);
+        self.cases.add(part.cases);
+    }
+
+    /// Compares one feed. After a difference the rest of it is left aside.
+    fn compare(
+        &mut self,
+        index: u64,
+        name: &dyn Display,
+        parts: impl Iterator<Item = Part> + Send,
+    ) {
+        let program = program_path();
+        let outcome = program::run(&program, parts, |part| {
+            self.lines.compared += part.records();
+            self.cases.add_counts(&part.cases);
+        });
+        match outcome {
+            Ok(None) => {}
+            Ok(Some(difference)) => self.lines.tell_difference(index, || {
+                format!(
+                    "{name} record {}\n        select   {:?}\n        expected {:?}",
+                    difference.record, difference.ours, difference.expected
+                )
+            }),
+            Err(error) => self
+                .lines
+                .tell_difference(index, || format!("{name}: {}: {error}", program.display())),
+        }
+    }
+}
+
+fn program_path() -> PathBuf {
+    let path = env::var_os("MR74_SELECT").filter(|path| !path.is_empty());
+    path.map_or(PathBuf::from(PROGRAM), PathBuf::from)
+}
+
+/// Compares at least so many records of feeds that are drawn, then truncated feeds, the sample and
+/// the empty feed.
+pub fn compare(records: u64, sample: &[Record]) -> Result<Vec<Line>, String> {
+    let program = program_path();
+    if !program.is_file() {
+        return Err(format!(
+            "{} is missing: `rt try select` builds it, or set MR74_SELECT to another",
+            program.display()
+        ));
+    }
+    let mut tally = Tally::new();
+    let drawn = drawn(records);
+    let truncated = truncated();
+    for feeds in [&drawn, &truncated] {
+        let parts = in_threads(feeds.len() as u64, Tally::new, |tally, indexes| {
+            for index in indexes {
+                let feed = feeds[index as usize];
+                tally.compare(index, &feed, Parts::new(feed, sample));
+            }
+        });
+        for part in parts {
+            tally.add(part);
+        }
+    }
+    let sample = sample_bytes();
+    let given_feeds = [("the sample", sample.as_slice()), ("the empty feed", &[])];
+    for (name, bytes) in given_feeds {
+        tally.compare(0, &name, [given(bytes)].into_iter());
+    }
+    eprintln!(
+        "{} feeds of {FEED_RECORDS} records at most, {} truncated ones",
+        drawn.len(),
+        truncated.len()
+    );
+    Ok(vec![
+        tally.lines,
+        Line::of_cases(tally.cases.counts(|_| true)),
+    ])
+}
+
+/// Feeds of all names but truncated ones, of so many records together.
+pub fn drawn(records: u64) -> Vec<Feed> {
+    let full = (0..records / FEED_RECORDS).map(|_| FEED_RECORDS);
+    let rest = Some(records % FEED_RECORDS).filter(|&rest| rest > 0);
+    (0..)
+        .zip(full.chain(rest))
+        .map(|(seed, records)| Feed {
+            name: SHARES[seed as usize % SHARES.len()],
+            records,
+            seed,
+        })
+        .collect()
+}
+
+/// Each end with other records before it each time.
+pub fn truncated() -> Vec<Feed> {
+    (0..ROUNDS * ENDS)
+        .map(|seed| Feed {
+            name: Name::Truncated,
+            records: seed / ENDS,
+            seed,
+        })
+        .collect()
+}
