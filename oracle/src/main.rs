@@ -44,6 +44,7 @@ use std::{
 const USAGE: &str = "usage: oracle [compare NAME.. | select [RECORDS] | answers [FEED] | \
                      feed NAME RECORDS [SEED] | record [FOLDER] | speed]";
 const RECORD_FOLDER: &str = concat!(env!("CARGO_MANIFEST_DIR"), "/../crates");
+const SAMPLE_FOLDER: &str = concat!(env!("CARGO_MANIFEST_DIR"), "/../samples");
 
 const DIFFERENT: u8 = 1;
 const UNUSABLE: u8 = 2;
@@ -60,8 +61,11 @@ fn main() -> ExitCode {
         ["answers", feed] => print_answers(Some(feed)),
         ["feed", name, records] => write_feed(name, records, "0"),
         ["feed", name, records, seed] => write_feed(name, records, seed),
-        ["record"] => record_samples(RECORD_FOLDER),
-        ["record", folder] => record_samples(folder),
+        ["record"] => record_samples(Path::new(RECORD_FOLDER), Path::new(SAMPLE_FOLDER)),
+        ["record", folder] => {
+            let folder = Path::new(folder);
+            record_samples(folder, &folder.join("samples"))
+        }
         ["speed"] => {
             speed::report();
             Ok(ExitCode::SUCCESS)
@@ -154,20 +158,27 @@ fn write_feed(name: &str, records: &str, seed: &str) -> Result<ExitCode, String>
     Ok(ExitCode::SUCCESS)
 }
 
-/// Writes each replay program's sample to the program's folder below this one.
-fn record_samples(folder: &str) -> Result<ExitCode, String> {
+/// Writes what each program reads and prints to the program's folder below this one, and the sample
+/// feeds to theirs.
+fn record_samples(folder: &Path, feeds: &Path) -> Result<ExitCode, String> {
     type Write = fn(&Path) -> io::Result<usize>;
-    let samples: [(&str, Write); 5] = [
+    let samples: [(&str, Write); 6] = [
         ("replay", record::write),
         ("replay_open_loop", open_loop::record::write),
         ("replay_filtering", filtering::record::write),
         ("replay_pulses", pulses::record::write),
         ("replay_gain", gain::record::write),
+        ("select", selection::record::write),
     ];
-    for (program, write) in samples {
-        let folder = Path::new(folder).join(program);
+    let samples = samples.map(|(program, write)| (program, folder.join(program), write));
+    let feeds: (&str, _, Write) = (
+        "samples",
+        feeds.to_path_buf(),
+        selection::record::write_samples,
+    );
+    for (name, folder, write) in samples.into_iter().chain([feeds]) {
         let records = write(&folder).map_err(|error| format!("{}: {error}", folder.display()))?;
-        println!("{program} {records} recorded");
+        println!("{name} {records} recorded");
     }
     Ok(ExitCode::SUCCESS)
 }

@@ -8,6 +8,7 @@ mod drawn;
 mod encoder;
 mod feeds;
 mod program;
+pub mod record;
 mod stages;
 
 pub use answers::printed;
