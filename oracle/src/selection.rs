@@ -10,6 +10,8 @@ mod feeds;
 mod program;
 pub mod record;
 mod stages;
+#[cfg(feature = "step")]
+mod steps;
 
 pub use answers::printed;
 pub use compare::compare;

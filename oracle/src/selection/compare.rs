@@ -24,8 +24,13 @@ const SHARES: [Name; 5] = [
     Name::Speech,
 ];
 
-/// How often each end of a truncated feed is taken.
+/// How often each end of a truncated feed is taken, and for how many records.
 const ROUNDS: u64 = 13;
+const ROUND_RECORDS: u64 = 750_000;
+
+/// The records that the library's step is compared on, at most.
+#[cfg(feature = "step")]
+const STEP_RECORDS: u64 = 1_100_000;
 
 /// What was compared, and which answers were met.
 struct Tally {
@@ -90,7 +95,7 @@ pub fn compare(records: u64, sample: &[Record]) -> Result<Vec<Line>, String> {
     }
     let mut tally = Tally::new();
     let drawn = drawn(records);
-    let truncated = truncated();
+    let truncated = truncated((records / ROUND_RECORDS).clamp(1, ROUNDS));
     for feeds in [&drawn, &truncated] {
         let parts = in_threads(feeds.len() as u64, Tally::new, |tally, indexes| {
             for index in indexes {
@@ -102,8 +107,8 @@ pub fn compare(records: u64, sample: &[Record]) -> Result<Vec<Line>, String> {
             tally.add(part);
         }
     }
-    let sample = sample_bytes();
-    let given_feeds = [("the sample", sample.as_slice()), ("the empty feed", &[])];
+    let speech = sample_bytes();
+    let given_feeds = [("the sample", speech.as_slice()), ("the empty feed", &[])];
     for (name, bytes) in given_feeds {
         tally.compare(0, &name, [given(bytes)].into_iter());
     }
@@ -112,14 +117,28 @@ pub fn compare(records: u64, sample: &[Record]) -> Result<Vec<Line>, String> {
         drawn.len(),
         truncated.len()
     );
-    Ok(vec![
-        tally.lines,
-        Line::of_cases(tally.cases.counts(|_| true)),
-    ])
+    let cases = Line::of_cases(tally.cases.counts(|_| true));
+    let mut lines = vec![tally.lines, cases];
+    lines.extend(compare_steps(records, sample));
+    Ok(lines)
+}
+
+/// Compares the library's step on feeds of so many records at most, and on truncated ones.
+#[cfg(feature = "step")]
+fn compare_steps(records: u64, sample: &[Record]) -> Vec<Line> {
+    let mut feeds = drawn(records.min(STEP_RECORDS));
+    feeds.extend(truncated(1));
+    super::steps::compare(&feeds, sample)
+}
+
+/// The library has no step yet.
+#[cfg(not(feature = "step"))]
+fn compare_steps(_: u64, _: &[Record]) -> Vec<Line> {
+    Vec::new()
 }
 
 /// Feeds of all names but truncated ones, of so many records together.
-pub fn drawn(records: u64) -> Vec<Feed> {
+fn drawn(records: u64) -> Vec<Feed> {
     let full = (0..records / FEED_RECORDS).map(|_| FEED_RECORDS);
     let rest = Some(records % FEED_RECORDS).filter(|&rest| rest > 0);
     (0..)
@@ -133,8 +152,8 @@ pub fn drawn(records: u64) -> Vec<Feed> {
 }
 
 /// Each end with other records before it each time.
-pub fn truncated() -> Vec<Feed> {
-    (0..ROUNDS * ENDS)
+fn truncated(rounds: u64) -> Vec<Feed> {
+    (0..rounds * ENDS)
         .map(|seed| Feed {
             name: Name::Truncated,
             records: seed / ENDS,

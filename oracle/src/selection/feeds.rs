@@ -89,7 +89,15 @@ impl Part {
     }
 }
 
-/// A feed and its answers as they are made, part by part.
+/// A record of a feed.
+pub struct Made<'a> {
+    pub bytes: Vec<u8>,
+    pub answered: &'a Answered,
+    #[cfg_attr(not(feature = "step"), expect(dead_code))]
+    pub stages: &'a Stages,
+}
+
+/// A feed and its answers as they are made.
 pub struct Making<'a> {
     feed: Feed,
     random: Random,
@@ -152,15 +160,19 @@ impl<'a> Making<'a> {
         [kind].into_iter().chain(more).collect()
     }
 
-    /// The next record with its answer.
-    pub fn next(&mut self) -> Option<(Vec<u8>, &Answered)> {
+    /// The next record with its answer and the stages after it.
+    pub fn next(&mut self) -> Option<Made<'_>> {
         let bytes = self.record()?;
         let head = first(&bytes).expect("a record");
         let answered = match head {
             Ok(head) => self.stages.step(head.kind, head.body),
             Err(refusal) => Err(refusal),
         };
-        Some((bytes, self.last.insert(answered)))
+        Some(Made {
+            bytes,
+            answered: self.last.insert(answered),
+            stages: &self.stages,
+        })
     }
 }
 
@@ -193,12 +205,12 @@ impl Iterator for Parts<'_> {
             self.begun = true;
         }
         while part.bytes.len() < BYTES
-            && let Some((bytes, answered)) = self.making.next()
+            && let Some(made) = self.making.next()
         {
             self.number += 1;
-            part.bytes.extend(bytes);
-            part.cases.count(Case::of(answered));
-            push_answer(&mut part.lines, self.number, answered);
+            part.bytes.extend(made.bytes);
+            part.cases.count(Case::of(made.answered));
+            push_answer(&mut part.lines, self.number, made.answered);
         }
         (!part.lines.is_empty()).then_some(part)
     }

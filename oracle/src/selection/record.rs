@@ -96,8 +96,8 @@ fn length(feed: &[u8], records: usize) -> usize {
 fn bytes(feed: Feed) -> Vec<u8> {
     let mut making = Making::new(feed, &[]);
     let mut bytes = Vec::new();
-    while let Some((record, _)) = making.next() {
-        bytes.extend(record);
+    while let Some(made) = making.next() {
+        bytes.extend(made.bytes);
     }
     bytes
 }
