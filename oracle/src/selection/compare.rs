@@ -10,7 +10,7 @@ use crate::{
     counts::Cases,
     feed::{Record, sample_bytes},
 };
-use std::{env, fmt::Display, path::PathBuf};
+use std::{env, fmt::Display, ops::RangeInclusive, path::PathBuf};
 
 const PROGRAM: &str = concat!(env!("CARGO_MANIFEST_DIR"), "/../target/bin/select");
 
@@ -27,6 +27,11 @@ const SHARES: [Name; 5] = [
 /// How often each end of a truncated feed is taken, and for how many records.
 const ROUNDS: u64 = 13;
 const ROUND_RECORDS: u64 = 750_000;
+
+/// The bytes of filled feeds are about each power of two of so many places, at most so many away.
+const POWERS: RangeInclusive<u32> = 12..=18;
+const AWAY: u64 = 2;
+const FILLED_EACH: u64 = 4;
 
 /// The records that the library's step is compared on, at most.
 #[cfg(feature = "step")]
@@ -96,7 +101,8 @@ pub fn compare(records: u64, sample: &[Record]) -> Result<Vec<Line>, String> {
     let mut tally = Tally::new();
     let drawn = drawn(records);
     let truncated = truncated((records / ROUND_RECORDS).clamp(1, ROUNDS));
-    for feeds in [&drawn, &truncated] {
+    let filled = filled();
+    for feeds in [&drawn, &truncated, &filled] {
         let parts = in_threads(feeds.len() as u64, Tally::new, |tally, indexes| {
             for index in indexes {
                 let feed = feeds[index as usize];
@@ -113,9 +119,10 @@ pub fn compare(records: u64, sample: &[Record]) -> Result<Vec<Line>, String> {
         tally.compare(0, &name, [given(bytes)].into_iter());
     }
     eprintln!(
-        "{} feeds of {FEED_RECORDS} records at most, {} truncated ones",
+        "{} feeds of {FEED_RECORDS} records at most, {} truncated ones, {} filled ones",
         drawn.len(),
-        truncated.len()
+        truncated.len(),
+        filled.len()
     );
     let cases = Line::of_cases(tally.cases.counts(|_| true));
     let mut lines = vec![tally.lines, cases];
@@ -157,6 +164,19 @@ fn truncated(rounds: u64) -> Vec<Feed> {
         .map(|seed| Feed {
             name: Name::Truncated,
             records: seed / ENDS,
+            seed,
+        })
+        .collect()
+}
+
+/// Some feeds of each length.
+fn filled() -> Vec<Feed> {
+    let lengths = POWERS.flat_map(|power| (1 << power) - AWAY..=(1 << power) + AWAY);
+    lengths
+        .flat_map(|bytes| (0..FILLED_EACH).map(move |seed| (bytes, seed)))
+        .map(|(bytes, seed)| Feed {
+            name: Name::Filled,
+            records: bytes,
             seed,
         })
         .collect()

@@ -23,13 +23,16 @@ pub enum Name {
     Speech,
     /// Mixed records, then one that is not all there, or of a bad kind.
     Truncated,
+    /// Mixed records that fill so many bytes, for a program that reads in blocks.
+    Filled,
 }
 
-pub const NAMES: [(&str, Name); 4] = [
+pub const NAMES: [(&str, Name); 5] = [
     ("mixed", Name::Mixed),
     ("extreme", Name::Extreme),
     ("speech", Name::Speech),
     ("truncated", Name::Truncated),
+    ("filled", Name::Filled),
 ];
 
 /// The ends of truncated feeds: after each number of bytes of a body, and the bad kinds.
@@ -50,7 +53,7 @@ const fn all_bodies() -> usize {
 #[derive(Clone, Copy)]
 pub struct Feed {
     pub name: Name,
-    /// The records, a last one that is refused left aside.
+    /// The records, a last one that is refused left aside; of a filled feed the bytes.
     pub records: u64,
     pub seed: u64,
 }
@@ -131,6 +134,7 @@ impl<'a> Making<'a> {
                 self.ended = true;
                 return cut.then(|| self.end());
             }
+            Name::Filled => return Some(self.filling()),
             Name::Mixed | Name::Truncated => mixed(random, &self.stages),
             Name::Extreme => extreme_record(random, &self.stages),
             Name::Speech => self.encoder.next(random, &self.stages, self.last.as_ref()),
@@ -140,6 +144,29 @@ impl<'a> Making<'a> {
         let mut bytes = record.body;
         bytes.insert(0, record.kind);
         Some(bytes)
+    }
+
+    /// A record that has room, else a reset or a part of the record: a feed of an even seed has
+    /// records that end at each whole block of bytes, one of an odd seed may end inside a record.
+    fn filling(&mut self) -> Vec<u8> {
+        const BLOCK: u64 = 1 << 12;
+        let left = self.feed.records - self.done;
+        let resets = self.feed.seed.is_multiple_of(2);
+        let room = match resets {
+            true => left.min(BLOCK - self.done % BLOCK) as usize,
+            false => left as usize,
+        };
+        let Record { kind, mut body } = mixed(&mut self.random, &self.stages);
+        let mut bytes = vec![kind];
+        if body.len() < room {
+            bytes.append(&mut body);
+        } else if resets {
+            bytes = vec![0];
+        } else {
+            bytes.extend(&body[..room - 1]);
+        }
+        self.done += bytes.len() as u64;
+        bytes
     }
 
     /// What a truncated feed ends with: a part of a record, or a bad kind and at times more.
