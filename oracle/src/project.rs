@@ -3,11 +3,9 @@
 //! Nothing checks these declarations against the library's source; they repeat its interface.
 
 mod gain;
-#[cfg(feature = "step")]
 mod step;
 
 pub use gain::*;
-#[cfg(feature = "step")]
 pub use step::*;
 
 /// A 32-bit number as its high word and its 15 low bits.

@@ -10,7 +10,6 @@ mod feeds;
 mod program;
 pub mod record;
 mod stages;
-#[cfg(feature = "step")]
 mod steps;
 
 pub use answers::printed;

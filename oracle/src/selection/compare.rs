@@ -34,7 +34,6 @@ const AWAY: u64 = 2;
 const FILLED_EACH: u64 = 4;
 
 /// The records that the library's step is compared on, at most.
-#[cfg(feature = "step")]
 const STEP_RECORDS: u64 = 1_100_000;
 
 /// What was compared, and which answers were met.
@@ -131,17 +130,10 @@ pub fn compare(records: u64, sample: &[Record]) -> Result<Vec<Line>, String> {
 }
 
 /// Compares the library's step on feeds of so many records at most, and on truncated ones.
-#[cfg(feature = "step")]
 fn compare_steps(records: u64, sample: &[Record]) -> Vec<Line> {
     let mut feeds = drawn(records.min(STEP_RECORDS));
     feeds.extend(truncated(1));
     super::steps::compare(&feeds, sample)
-}
-
-/// The library has no step yet.
-#[cfg(not(feature = "step"))]
-fn compare_steps(_: u64, _: &[Record]) -> Vec<Line> {
-    Vec::new()
 }
 
 /// Feeds of all names but truncated ones, of so many records together.

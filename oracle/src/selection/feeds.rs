@@ -96,7 +96,6 @@ impl Part {
 pub struct Made<'a> {
     pub bytes: Vec<u8>,
     pub answered: &'a Answered,
-    #[cfg_attr(not(feature = "step"), expect(dead_code))]
     pub stages: &'a Stages,
 }
 
