@@ -1,18 +1,16 @@
 -- The sums of Residu and Syn_filt by one tap more, and the samples that a filter has put out.
 use mathlib.Core.Path.{_≡_, refl, sym, ap, _∙_}
-use mathlib.Core.Bool.{Bool, true, false}
 use mathlib.Core.List.{List, [], _∷_}
 use Prim.Native.Nat.{ℕ, zero, suc, _+_, _-_, _≤_, _<_}
 use native.Mathlib.Omega.{arith}
 use native.Mathlib.Numerals.{add-one}
-use lib.Dec.{ltb}
 use lib.IntN.{ℤ, pos}
-use lib.ListN.{length, length-append, List·getD-append, List·getD-eq-default}
+use lib.ListN.{length, length-append, List·getD-append}
 use lib.Seq.{getD-append-seam}
-use borrow.Author.Tests.{le-leb, lt-ltb, ltb-false}
+use borrow.Author.Tests.{le-leb, lt-ltb}
 use Rattle.fixed.specs.Operators.{L-mac, L-mult, L-msu}
 use Rattle.fixed.specs.Lists.{at, part, between, L-sum}
-use Rattle.fixed.proofs.Lists.{Filled, filled-all, length-tabulate, at-tabulate}
+use Rattle.fixed.proofs.Lists.{Filled, length-tabulate, at-tabulate}
 use Rattle.filters.specs.Filters.{taps-to, less-past, synthesized, one-more, put-out}
 
 -- ---- Residu with its sums side by side

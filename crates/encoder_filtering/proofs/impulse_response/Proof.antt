@@ -10,7 +10,6 @@ use Rattle.filters.proofs.Lengths.{syn-length, synthesis-put-out}
 use borrow.Author.Needs.{needs}
 use Rattle.encoder_filtering.proofs.impulse_response.Statement.{statement}
 use Rattle.encoder_filtering.proofs.impulse_response.Tie as tie
-use Rattle.filters.proofs.put_out.Reads as put-out-reads
 
 extended-length : (xs : List ℤ) → length (part xs 0 40) ≡ 40
 unfolding part

@@ -1,11 +1,9 @@
 use mathlib.Core.Path.{_≡_, refl}
-use mathlib.Core.List.{List}
-use lib.IntN.{ℤ}
 use borrow.Author.Tests.{eq-eqb, ne-eqb}
 use borrow.Author.Needs.{needs}
 use Rattle.fixed.proofs.Lists.{copied-whole}
 use Rattle.refusal.specs.Refused.{values}
-use Rattle.refusal.specs.Checks.{Outcome, unless-refused}
+use Rattle.refusal.specs.Checks.{unless-refused}
 use Rattle.encoder_filtering.specs.declared.PreparedSubframe.{PreparedSubframe}
 use Rattle.encoder_filtering.specs.Subframes.{subframePreProc, written-checks, lists, prepare}
 use Rattle.encoder_filtering.proofs.Lengths.{residual-length, impulse-length, target-length, error-length}

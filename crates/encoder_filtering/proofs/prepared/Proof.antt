@@ -5,8 +5,6 @@ use Rattle.filters.proofs.Lengths.{residu-length, filtered-whole, synthesis-who
 use borrow.Author.Needs.{needs}
 use Rattle.encoder_filtering.proofs.prepared.Statement.{statement}
 use Rattle.encoder_filtering.proofs.prepared.Tie as tie
-use Rattle.encoder_filtering.proofs.impulse_response.Reads as impulse-response-reads
-use Rattle.filters.proofs.put_out.Reads as put-out-reads
 
 eleven-requires : tie.Need-eleven-requires
 eleven-requires c κs = search needs

@@ -3,7 +3,6 @@ use Rattle.filters.proofs.Lengths.{residu-length, filtered-whole, synthesis-put
 use borrow.Author.Needs.{needs}
 use Rattle.encoder_filtering.proofs.target_of.Statement.{statement}
 use Rattle.encoder_filtering.proofs.target_of.Tie as tie
-use Rattle.filters.proofs.put_out.Reads as put-out-reads
 
 filtered-requires : tie.Need-filtered-requires
 filtered-requires c κs = search needs

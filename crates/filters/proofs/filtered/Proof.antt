@@ -13,7 +13,6 @@ use borrow.Author.Needs.{needs}
 use native.Mathlib.Omega.{arith}
 use Rattle.filters.proofs.filtered.Statement.{statement}
 use Rattle.filters.proofs.filtered.Tie as tie
-use Rattle.filters.proofs.tap_sums.Reads as tap-sums-reads
 
 abbrev Inv-loop : tie.InvT-loop
 Inv-loop coefficients samples sums residual₀ i₀ residual i = (sums ≡ tabulate (λ k. taps-to coefficients samples k 11) 40) × (i ≤ 40) × (length residual ≡ 40) × Filled (residual-at coefficients samples) (pos 0) i residual

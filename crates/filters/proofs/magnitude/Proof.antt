@@ -3,7 +3,6 @@ use mir.Facts.{toZ-ofZ}
 use borrow.Author.Needs.{needs}
 use Rattle.filters.proofs.magnitude.Statement.{statement}
 use Rattle.filters.proofs.magnitude.Tie as tie
-use Rattle.fixed.proofs.unsigned_abs.Reads as unsigned-abs-reads
 
 cast-unsigned-abs : tie.Need-cast-unsigned-abs
 cast-unsigned-abs c =

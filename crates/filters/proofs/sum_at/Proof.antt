@@ -12,9 +12,6 @@ use native.Mathlib.Nat.{mul-le-mul}
 use borrow.Author.Needs.{needs}
 use Rattle.filters.proofs.sum_at.Statement.{statement}
 use Rattle.filters.proofs.sum_at.Tie as tie
-use Rattle.filters.proofs.clipped_sum.Reads as clipped-sum-reads
-use Rattle.filters.proofs.plain_sum.Reads as plain-sum-reads
-use Rattle.fixed.proofs.unsigned_abs.Reads as unsigned-abs-reads
 
 shared-slice-copy-out-exact : tie.Need-shared-slice-copy-out-exact
 shared-slice-copy-out-exact c = search needs

@@ -17,7 +17,6 @@ use borrow.Author.Tests.{eq-eqb, ne-eqb}
 use borrow.Author.Needs.{needs}
 use Rattle.filters.proofs.synthesis.Statement.{statement}
 use Rattle.filters.proofs.synthesis.Tie as tie
-use Rattle.filters.proofs.sum_at.Reads as sum-at-reads
 
 abbrev Inv-loop : tie.InvT-loop
 Inv-loop coefficients excitation past reach samples₀ peak₀ i₀ samples peak i = (length coefficients ≡ 11) × (length excitation ≡ 40) × (length past ≡ 10) × (reach ≡ magnitudes coefficients 10) × (i ≤ 10) × (length samples ≡ 50) × Filled (at past) (pos 0) i samples × Below samples i peak

@@ -14,7 +14,6 @@ use borrow.Author.Needs.{needs}
 use native.Mathlib.Omega.{arith}
 use Rattle.open_loop_correlation.proofs.correlations.Statement.{statement}
 use Rattle.open_loop_correlation.proofs.correlations.Tie as tie
-use Rattle.open_loop_correlation.proofs.four_at.Reads as four-at-reads
 
 abbrev Inv-loop : tie.InvT-loop
 Inv-loop words table₀ lag₀ table lag = (20 ≤ lag) × (lag ≤ 144) × (lag % 4 ≡ 0) × Placed words lag table

@@ -4,7 +4,6 @@ use mir.Syntax.{w16}
 use borrow.Author.Needs.{needs}
 use Rattle.open_loop_sections.proofs.favoured.Statement.{statement}
 use Rattle.open_loop_sections.proofs.favoured.Tie as tie
-use Rattle.fixed.proofs.fractional.Reads as fractional-reads
 
 fractional-requires : tie.Need-fractional-requires
 fractional-requires c κs = search needs

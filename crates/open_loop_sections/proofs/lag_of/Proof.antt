@@ -2,8 +2,6 @@ use Rattle.open_loop_sections.specs.Sections.{lag-of}
 use borrow.Author.Needs.{needs}
 use Rattle.open_loop_sections.proofs.lag_of.Statement.{statement}
 use Rattle.open_loop_sections.proofs.lag_of.Tie as tie
-use Rattle.open_loop_sections.proofs.of_sections.Reads as of-sections-reads
-use Rattle.open_loop_sections.proofs.scaled_all.Reads as scaled-all-reads
 
 scaled-all-requires : tie.Need-scaled-all-requires
 scaled-all-requires c κs = search needs

@@ -5,8 +5,6 @@ use Rattle.open_loop_sections.specs.declared.Held.{Held}
 use borrow.Author.Needs.{needs}
 use Rattle.open_loop_sections.proofs.of_sections.Statement.{statement}
 use Rattle.open_loop_sections.proofs.of_sections.Tie as tie
-use Rattle.open_loop_sections.proofs.favoured.Reads as favoured-reads
-use Rattle.open_loop_sections.proofs.section.Reads as section-reads
 
 section-requires : tie.Need-section-requires
 section-requires c κs = search needs

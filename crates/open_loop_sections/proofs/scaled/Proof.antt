@@ -4,7 +4,6 @@ use Rattle.fixed.proofs.Bounds.{got}
 use borrow.Author.Needs.{needs}
 use Rattle.open_loop_sections.proofs.scaled.Statement.{statement}
 use Rattle.open_loop_sections.proofs.scaled.Tie as tie
-use Rattle.fixed.proofs.shift_word.Reads as shift-word-reads
 
 shift-word-requires : tie.Need-shift-word-requires
 shift-word-requires c κs = search needs

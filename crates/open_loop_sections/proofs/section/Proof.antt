@@ -12,9 +12,6 @@ use Rattle.open_loop_sections.proofs.Lags.{lag-max-table, lag-max-in}
 use borrow.Author.Needs.{needs}
 use Rattle.open_loop_sections.proofs.section.Statement.{statement}
 use Rattle.open_loop_sections.proofs.section.Tie as tie
-use Rattle.energy.proofs.inverse_sqrt.Reads as inverse-sqrt-reads
-use Rattle.fixed.proofs.low_word.Reads as low-word-reads
-use Rattle.open_loop_sections.proofs.best_lag.Reads as best-lag-reads
 
 best-lag-requires : tie.Need-best-lag-requires
 best-lag-requires c κs = search needs

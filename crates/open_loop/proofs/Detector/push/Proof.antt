@@ -7,7 +7,6 @@ use borrow.Author.Tests.{ne-eqb, eq-eqb, le-leb}
 use borrow.Author.Needs.{needs}
 use Rattle.open_loop.proofs.Detector.push.Statement.{statement}
 use Rattle.open_loop.proofs.Detector.push.Tie as tie
-use Rattle.pitch.proofs.OpenLoopLag.try_new.Reads as try-new-reads
 
 returns : tie.Need-returns
 unfolding Pitch-ol
