@@ -17,9 +17,9 @@ pub struct Difference {
     pub expected: String,
 }
 
-/// Runs the program on a feed. Each part whose lines all came is handed to `compared`, and its
-/// number of lines with it. Neither side is held in memory: the pipes make the maker of the parts
-/// wait for the program, and the program for the comparison.
+/// Runs the program on a feed. Each part whose lines all came is handed to `compared`. Neither side
+/// is held in memory: the pipes make the maker of the parts wait for the program, and the program
+/// for the comparison.
 pub fn run(
     program: &Path,
     parts: impl Iterator<Item = Part> + Send,
@@ -56,7 +56,7 @@ pub fn run(
     })?;
     let status = child.wait()?;
     if difference.is_none() && !status.success() {
-        return Err(io::Error::other(format!("{}: {status}", program.display())));
+        return Err(io::Error::other(status.to_string()));
     }
     Ok(difference)
 }
@@ -90,7 +90,7 @@ fn compare_lines(
 fn difference(record: u64, ours: &[u8], expected: &str) -> Difference {
     Difference {
         record,
-        ours: String::from_utf8_lossy(ours).trim_end().to_string(),
-        expected: expected.trim_end().to_string(),
+        ours: String::from_utf8_lossy(ours).to_string(),
+        expected: expected.to_string(),
     }
 }
