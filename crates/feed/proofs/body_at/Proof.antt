@@ -2,8 +2,8 @@ use borrow.Author.Needs.{needs}
 use mathlib.Core.Path.{_≡_, sym, ap, _∙_}
 use Prim.Native.Nat.{_+_, _-_}
 use native.Mathlib.Omega.{arith}
-use Rattle.refusal.specs.Refused.{values, turned-down}
-use Rattle.feed.specs.Records.{body-length, told-header, nothing, whole, header, body}
+use Rattle.refusal.specs.Refused.{values}
+use Rattle.feed.specs.Records.{body-length, told-header, whole, header, body}
 use Rattle.feed.proofs.Standings.{Whole, whole-is}
 use Rattle.feed.proofs.body_at.Statement.{statement}
 use Rattle.feed.proofs.body_at.Tie as tie

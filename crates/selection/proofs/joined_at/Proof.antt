@@ -1,10 +1,8 @@
 use borrow.Author.Needs.{needs}
 use mathlib.Core.Path.{_≡_, refl, sym, ap, _∙_}
-use mathlib.Core.List.{_++_}
 use Prim.Native.Nat.{_-_}
 use native.Mathlib.Omega.{arith}
 use mir.Syntax.{w16}
-use mir.Val.{toZ, ofZ}
 use Rattle.fixed.specs.Lists.{at}
 use Rattle.fixed.proofs.Bounds.{got}
 use Rattle.selection.proofs.Joinings.{in-first, in-second}

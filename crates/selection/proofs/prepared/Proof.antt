@@ -1,9 +1,4 @@
 use borrow.Author.Needs.{needs}
-use mathlib.Core.Path.{_≡_, sym, ap, _∙_}
-use Rattle.refusal.specs.Refused.{Told}
-use Rattle.encoder_filtering.specs.declared.PreparedSubframe.{PreparedSubframe}
-use Rattle.encoder_filtering.specs.Subframes.{told}
-use Rattle.selection.specs.Steps.{Step, in-order, with-words}
 use Rattle.selection.proofs.prepared.Statement.{statement}
 use Rattle.selection.proofs.prepared.Tie as tie
 
