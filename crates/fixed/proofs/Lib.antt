@@ -11,6 +11,7 @@ pub mod Sums
 pub mod Rows
 pub mod Choices
 pub mod Plain
+pub mod Quiet
 pub mod Products
 pub mod LowBits
 pub mod Overflows

@@ -25,6 +25,10 @@ pub sub-swap : (a p q : ℤ) → a -ℤ q -ℤ p ≡ a -ℤ p -ℤ q
 sub-swap a p q =
     +ℤ-assoc a (negℤ q) (negℤ p) ∙ ap (λ (y : ℤ). a +ℤ y) (+ℤ-comm (negℤ q) (negℤ p)) ∙ sym (+ℤ-assoc a (negℤ p) (negℤ q))
 
+pub double-add : (a b : ℤ) → pos 2 *ℤ (a +ℤ b) ≡ pos 2 *ℤ a +ℤ pos 2 *ℤ b
+double-add a b =
+    double (a +ℤ b) ∙ middle a b a b ∙ sym (ap (λ (y : ℤ). y +ℤ pos 2 *ℤ b) (double a) ∙ ap (λ (y : ℤ). a +ℤ a +ℤ y) (double b))
+
 double-sub : (a b : ℤ) → pos 2 *ℤ (a -ℤ b) ≡ pos 2 *ℤ a -ℤ pos 2 *ℤ b
 double-sub a b =
     double (a -ℤ b) ∙ middle a (negℤ b) a (negℤ b) ∙ ap (λ (y : ℤ). a +ℤ a +ℤ y) (sym (negℤ-+ℤ b b))
@@ -32,7 +36,7 @@ double-sub a b =
 
 -- ---- longs
 -- twice a number below 2 ^ 30 is not clipped
-unclipped : (z : ℤ) → natAbs z < 2 ^ 30 → clip 31 (pos 2 *ℤ z) ≡ pos 2 *ℤ z
+pub unclipped : (z : ℤ) → natAbs z < 2 ^ 30 → clip 31 (pos 2 *ℤ z) ≡ pos 2 *ℤ z
 unclipped z h = clip-id 31 (pos 2 *ℤ z) (fits-abs w32 (pos 2 *ℤ z) (rw (abs-mul (pos 2) z) (omega arith)) .sfits)
 
 pub plain-mult : (a b : ℤ) → natAbs (a *ℤ b) < 2 ^ 30 → L-mult a b ≡ pos 2 *ℤ (a *ℤ b)
