@@ -1,7 +1,7 @@
 -- One step on a feed record, as it crosses to Rust and C.
 use mathlib.Core.Bool.{false, cond}
 use mathlib.Core.List.{List, [], _∷_}
-use Prim.Native.Nat.{ℕ}
+use Prim.Native.Nat.{ℕ, _+_, _-_}
 use lib.Dec.{eqb}
 use lib.IntN.{ℤ, pos}
 use Rattle.fixed.specs.Lists.{at, copied}
@@ -10,13 +10,21 @@ use Rattle.refusal.specs.Checks.{checked, length-is}
 use Rattle.pitch.specs.declared.Reader.{Reader}
 use Rattle.pitch.specs.Kinds.{thirds, subframe-number}
 use Rattle.pitch_search.specs.declared.Search.{Search}
+use Rattle.feed.specs.Records.{Standing, nothing, whole}
 use Rattle.selection.specs.declared.Selection.{Selection}
 use Rattle.selection.specs.Lines.{Line, none, line}
 use Rattle.selection.specs.Steps.{Step, step}
 use Rattle.mr74.specs.declared.PitchState.{PitchState}
 use Rattle.mr74.specs.declared.Fields.{Fields}
+use Rattle.mr74.specs.declared.RecordAnswer.{RecordAnswer}
 use Rattle.mr74.specs.declared.StepAnswer.{StepAnswer}
 use Rattle.mr74.specs.Pitches.{searcher-of, reader-of}
+
+-- ---- what stands at a place: number 0, the kind, or 7 where the feed ends, and its body, or a refusal's number and detail and zeros
+abbrev pub record-answer : ℕ → Told Standing → RecordAnswer
+record-answer at (values nothing) = record { number = 0; magnitude = 0; kind = 7; from = 0; length = 0 }
+record-answer at (values (whole k next)) = record { number = 0; magnitude = 0; kind = k; from = at + 1; length = next - (at + 1) }
+record-answer at (refused n d) = record { number = n; magnitude = sign-magnitude d .magnitude; kind = 0; from = 0; length = 0 }
 
 -- ---- an answer in numbers: number 0, the kind and four fields, or a refusal's number and detail and zeros
 abbrev pub accepted-line : ℕ → ℤ → ℤ → ℤ → ℤ → Fields

@@ -3,6 +3,7 @@ use codebook::PulseReading;
 use codebook_search::Pulses;
 use codebook_target::SharpeningGain;
 use encoder_filtering::Filtering;
+use feed::Header;
 use gain::Quantized;
 use gain_pitch::Gained;
 use logarithm::Logarithm;
@@ -10,6 +11,7 @@ use logarithm::Power;
 use open_loop::Detector;
 use pitch::Fraction;
 use pitch::OpenLoop;
+use pitch::OpenLoopLag;
 use pitch::PitchLag;
 use pitch::Reader;
 use pitch::Reading;
@@ -27,7 +29,7 @@ ghost use Rattle.logarithm.specs.Logarithms.{Log2};
 ghost use Rattle.logarithm.specs.Powers.{Pow2};
 ghost use Rattle.refusal.specs.Refused.{refused, number, detail, turned-down};
 ghost use Rattle.encoder_filtering.specs.Subframes.{told, lists, residual, prepare};
-ghost use Rattle.pitch.specs.Kinds.{told-lag};
+ghost use Rattle.pitch.specs.Kinds.{told-lag, try-lag};
 ghost use Rattle.pitch.specs.Readers.{read};
 ghost use Rattle.pitch_convolution.specs.Filters.{convolve};
 ghost use Rattle.pitch_search.specs.Searches.{Pitch-fr};
@@ -39,8 +41,9 @@ ghost use Rattle.mr74.specs.Crossing.{power-answer};
 ghost use Rattle.mr74.specs.Codebooks.{pulses-answer, places-answer};
 ghost use Rattle.mr74.specs.Gains.{pitch-gain-answer, gain-answer};
 ghost use Rattle.mr74.specs.OpenLoops.{lag-answer, open-loop};
+ghost use Rattle.feed.specs.Records.{header};
 ghost use Rattle.selection.specs.Lines.{told-answer};
-ghost use Rattle.mr74.specs.Steps.{accepted-line, fields-of, step-answer, crossed-step};
+ghost use Rattle.mr74.specs.Steps.{record-answer, accepted-line, fields-of, step-answer, crossed-step};
 ghost use Rattle.mr74.specs.Pitches.{fraction-of, subframe-of, lag-of-state, searcher-of, reader-of, fresh-state, accepted-pitch, refused-pitch, pitch-answer, reading-answer, length-answer};
 
 #[repr(C)]
@@ -260,6 +263,15 @@ pub struct OpenLoopAnswer {
     pub number: u8,
     pub magnitude: u64,
     pub lag: u16,
+}
+
+// A lag that the open loop may answer, 20 to 143.
+#[no_mangle]
+pub extern "C" fn mr74_open_loop_lag(samples: u16) -> OpenLoopAnswer
+    ensures { λ r. ⌜ r ≡ lag-answer (try-lag samples) ⌝ }
+{
+    let lag = OpenLoopLag::try_new(samples);
+    lag_answer(lag)
 }
 
 #[no_mangle]
@@ -601,7 +613,55 @@ fn gain_answer(answer: Quantized) -> GainAnswer
     }
 }
 
-// ---- The feed: one step on the record at a place. Detector, searcher and reader cross as above; the 160 words of a filtering record are lent.
+// ---- The feed: what stands at a place of it.
+
+#[repr(C)]
+pub struct RecordAnswer {
+    pub number: u8,
+    pub magnitude: u64,
+    // 0 to 6, or 7 where the feed ends.
+    pub kind: u8,
+    // The body: its first place in the feed, and its length.
+    pub from: usize,
+    pub length: usize,
+}
+
+#[no_mangle]
+pub extern "C" fn mr74_record(feed: &[u8], at: usize) -> RecordAnswer
+    ensures { λ r. ⌜ r ≡ record-answer at (header (now (feed .entry)) at) ⌝ }
+{
+    match feed::header_at(feed, at) {
+        Header::End => RecordAnswer {
+            number: 0,
+            magnitude: 0,
+            kind: 7,
+            from: 0,
+            length: 0,
+        },
+        Header::Record { kind, next } => {
+            let from = at + 1;
+            RecordAnswer {
+                number: 0,
+                magnitude: 0,
+                kind,
+                from,
+                length: next - from,
+            }
+        }
+        Header::Refused(refusal) => {
+            let detail = refusal.detail();
+            RecordAnswer {
+                number: refusal.number(),
+                magnitude: detail.magnitude,
+                kind: 0,
+                from: 0,
+                length: 0,
+            }
+        }
+    }
+}
+
+// ---- One step on the record at a place. Detector, searcher and reader cross as above; the 160 words of a filtering record are lent.
 
 #[repr(C)]
 pub struct StepAnswer {
