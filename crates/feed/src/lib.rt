@@ -1,8 +1,13 @@
 // The record reader: what stands at a place of a feed, from 01, 'Feed and program'.
 use refusal::Refusal;
 ghost use mathlib.Core.Path.{_≡_};
+ghost use Prim.Native.Nat.{_+_, _*_, _≤_};
+ghost use lib.IntN.{pos};
+ghost use lib.ListN.{length};
+ghost use Rattle.fixed.specs.Operators.{extract-l, remainder};
+ghost use Rattle.fixed.specs.Lists.{at, tabulate};
 ghost use Rattle.feed.specs.Records.{told-header, header, body};
-ghost use Rattle.feed.specs.Words.{words-into};
+ghost use Rattle.feed.specs.Words.{words, words-into, turned};
 
 // By the kind: reset, half frame, pitch, pulses, gain, filtering, lag reading.
 const LENGTHS: [usize; 7] = [0, 160, 551, 163, 245, 184, 2];
@@ -60,9 +65,47 @@ pub fn read_words(body: &[u8], from: usize, list: &mut [i16])
     if (body.len() - from) / 2 < list.len() {
         return;
     }
+    lay(body, from, list);
+    turn(list);
+}
+
+// The bytes as they lie, the first of a word as its low one: a copy, which the machine makes in one piece.
+fn lay(body: &[u8], from: usize, list: &mut [i16])
+    requires { ⌜ from + 2 * length (now list) ≤ length (now body) ⌝ }
+    ensures { λ r. ⌜ tabulate (λ k. turned (at (now (list .exit)) k)) (length (now (list .entry))) ≡ words (now (body .entry)) from (length (now (list .entry))) ⌝ }
+{
     for i in 0..list.len() {
-        let high = body[from + 2 * i];
-        let low = body[from + 2 * i + 1];
-        list[i] = fixed::word(high, low);
+        list[i] = laid(body[from + 2 * i], body[from + 2 * i + 1]);
     }
+}
+
+fn laid(first: u8, second: u8) -> i16
+    ensures { λ r. ⌜ turned r ≡ extract-l (pos (first * 256 + second)) ⌝ }
+{
+    fixed::word(second, first)
+}
+
+fn turn(list: &mut [i16])
+    ensures { λ r. ⌜ now (list .exit) ≡ tabulate (λ k. turned (at (now (list .entry)) k)) (length (now (list .entry))) ⌝ }
+{
+    for i in 0..list.len() {
+        list[i] = turned(list[i]);
+    }
+}
+
+// A word with its bytes exchanged.
+fn turned(v: i16) -> i16
+    ensures { λ r. ⌜ r ≡ turned v ⌝ }
+{
+    let bits = bits_of(v);
+    fixed::word((bits % 256) as u8, (bits / 256) as u8)
+}
+
+fn bits_of(v: i16) -> u16
+    ensures { λ r. ⌜ r ≡ remainder v 65536 ⌝ }
+{
+    if v < 0 {
+        return (v as i32 + 65536) as u16;
+    }
+    v as u16
 }
