@@ -3,14 +3,17 @@ use feed::Header;
 use gain::QuantizedGain;
 use libc::STDIN_FILENO;
 use libc::STDOUT_FILENO;
+use open_loop::Detector;
 use pitch::PitchLag;
+use pitch::Reader;
+use pitch_search::Search;
 use refusal::Refusal;
 use selection::Answer;
-use selection::Selection;
 
-// What is carried from record to record.
+// What is carried from record to record, beside the lists that `main` lends.
 struct State {
-    selection: Selection,
+    searcher: Search,
+    reader: Reader,
     // The number of the last record.
     number: u64,
     // The place of the next record in the input block.
@@ -29,10 +32,13 @@ struct State {
 fn main() {
     let mut input = io::large_buffer();
     let mut output = io::large_buffer();
+    let detector = Detector::fresh();
+    let mut history = detector.history_q0;
+    let mut words = [0i16; 160];
     let mut state = begun(&mut output);
     let mut turns = u64::MAX;
     while turns > 0 && state.open {
-        state = block(state, &mut input, &mut output);
+        state = block(state, &mut history, &mut words, &mut input, &mut output);
         turns -= 1;
     }
     flush(&output, state.filled);
@@ -41,7 +47,8 @@ fn main() {
 fn begun(output: &mut [u8]) -> State {
     let filled = put_text(output, 0, b"mr74 select\n");
     State {
-        selection: Selection::fresh(),
+        searcher: Search::fresh(),
+        reader: Reader::fresh(),
         number: 0,
         at: 0,
         have: 0,
@@ -52,14 +59,33 @@ fn begun(output: &mut [u8]) -> State {
 }
 
 // What is left of the input block moves to its front, the rest is read behind it, and its whole records are run.
-fn block(state: State, input: &mut [u8], output: &mut [u8]) -> State {
+fn block(
+    state: State,
+    history: &mut [i16; 143],
+    words: &mut [i16; 160],
+    input: &mut [u8],
+    output: &mut [u8],
+) -> State {
     let kept = moved(input, state.at, state.have);
     if input.len() <= kept {
         return closed(state);
     }
-    let got = io::read_full(STDIN_FILENO, &mut input[kept..]);
-    let have = kept + got;
-    run(loaded(state, have, have < input.len()), input, output)
+    let have = read_behind(input, kept);
+    run(
+        loaded(state, have, have < input.len()),
+        history,
+        words,
+        input,
+        output,
+    )
+}
+
+// How many bytes there are then.
+fn read_behind(input: &mut [u8], kept: usize) -> usize {
+    if input.len() < kept {
+        return kept;
+    }
+    kept + io::read_full(STDIN_FILENO, &mut input[kept..])
 }
 
 // How many bytes are left.
@@ -92,7 +118,13 @@ fn closed(state: State) -> State {
 }
 
 // A record has at least one byte, so there are no more records than bytes.
-fn run(state: State, input: &[u8], output: &mut [u8]) -> State {
+fn run(
+    state: State,
+    history: &mut [i16; 143],
+    words: &mut [i16; 160],
+    input: &[u8],
+    output: &mut [u8],
+) -> State {
     let have = state.have;
     if input.len() < have {
         return closed(state);
@@ -102,7 +134,7 @@ fn run(state: State, input: &[u8], output: &mut [u8]) -> State {
     let mut end = end_of(feed, next.at, next.ended);
     let mut turns = have;
     while turns > 0 && next.open && next.at < end {
-        next = record(next, feed, end, output);
+        next = record(next, history, words, feed, end, output);
         end = end_of(feed, next.at, next.ended);
         turns -= 1;
     }
@@ -133,17 +165,25 @@ fn short(refusal: Refusal) -> bool {
     }
 }
 
-fn record(state: State, feed: &[u8], end: usize, output: &mut [u8]) -> State {
-    let stepped = selection::step(state.selection, feed, state.at);
-    let selection = stepped.selection;
-    let answer = stepped.answer;
-    let words = stepped.words;
+fn record(
+    state: State,
+    history: &mut [i16; 143],
+    words: &mut [i16; 160],
+    feed: &[u8],
+    end: usize,
+    output: &mut [u8],
+) -> State {
+    let step = selection::step_lent(state.searcher, state.reader, history, words, feed, state.at);
+    let searcher = step.searcher;
+    let reader = step.reader;
+    let answer = step.answer;
     let number = std::num::wrapping_add_u64(state.number, 1);
     let numbered = put_decimal(output, state.filled, number);
-    let told = put_answer(output, numbered, answer, &words);
+    let told = put_answer(output, numbered, answer, words);
     let filled = put(output, told, b'\n');
     State {
-        selection,
+        searcher,
+        reader,
         number,
         at: end,
         have: state.have,

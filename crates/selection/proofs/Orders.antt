@@ -5,7 +5,7 @@ use mathlib.Core.List.{List}
 use Prim.Native.Nat.{ℕ}
 use borrow.Author.Tests.{eq-eqb}
 use lib.Dec.{leb}
-use lib.IntN.{pos}
+use lib.IntN.{ℤ, pos}
 use lib.ListN.{length, getD}
 use Rattle.refusal.specs.Refused.{refused}
 use Rattle.refusal.specs.Checks.{within}
@@ -16,10 +16,10 @@ use Rattle.feed.proofs.Wordings.{words-length}
 use Rattle.selection.specs.declared.Selection.{Selection}
 use Rattle.selection.specs.Steps.{pitch, gain}
 
-module _ (s : Selection) (bs : List ℕ) where
+module _ (s : Selection) (ws : List ℤ) (bs : List ℕ) where
   -- both lags of a pitch record are checked, whichever its subframe uses
   pub second-lag-checked : within 1 4 (getD bs 0 0) ≡ true → within 20 143 (getD bs 549 0) ≡ true → within 20 143 (getD bs 550 0) ≡ false →
-      pitch s bs .answer ≡ refused 3 (pos (getD bs 550 0))
+      pitch s ws bs .answer ≡ refused 3 (pos (getD bs 550 0))
   unfolding pitch Pitch-fr
   second-lag-checked n first second =
       rw (
@@ -32,7 +32,7 @@ module _ (s : Selection) (bs : List ℕ) where
       )
 
   -- a gain record with a bad limit gets number 2, whatever its exponent and its fraction
-  pub limit-first : leb (getD bs 244 0) 1 ≡ false → gain s bs .answer ≡ refused 2 (pos (getD bs 244 0))
+  pub limit-first : leb (getD bs 244 0) 1 ≡ false → gain s ws bs .answer ≡ refused 2 (pos (getD bs 244 0))
   unfolding gain quantize
   limit-first bad =
       rw (

@@ -22,7 +22,7 @@ use Rattle.encoder_filtering.specs.Subframes.{prepare}
 use Rattle.feed.specs.Records.{Standing, nothing, whole, header, body}
 use Rattle.selection.specs.declared.Selection.{Selection}
 use Rattle.selection.specs.Lines.{open-line, pitch-line, lag-line}
-use Rattle.selection.specs.Steps.{Step, fresh-selection, of-detector, of-searcher, of-reader, in-order, with-words, of-filters, half-frame, pitch, pulse, gain, filtering, lag-reading, of-kind, of-standing, step}
+use Rattle.selection.specs.Steps.{Step, fresh-selection, of-detector, of-searcher, of-reader, in-order, with-words, of-filters, half-frame, pitch, pulse, gain, filtering, lag-reading, of-kind, of-standing, step-lent}
 
 -- ---- the stages that have a state
 detector-kept : (d : Detector) (xs : List ℤ) → accepts (Pitch-ol d xs .answer) ≡ false → Pitch-ol d xs .after ≡ d
@@ -43,28 +43,28 @@ put-refuses : {A B : Type 0} (f : A → B) (a : Told A) → accepts (put f a) �
 put-refuses f (values v) e = e
 put-refuses f (refused n d) e = refl
 
-module _ (s : Selection) where
+module _ (s : Selection) (ws : List ℤ) where
   -- a refusal leaves all three as they were
   abbrev pub Keeps : Step → Type 0
   Keeps t = accepts (t .answer) ≡ false → t .after ≡ s
 
-  detector-keeps : (o : Outcome ℕ Detector) → (accepts (o .answer) ≡ false → o .after ≡ s .detector) → Keeps (of-detector s o)
+  detector-keeps : (o : Outcome ℕ Detector) → (accepts (o .answer) ≡ false → o .after ≡ s .detector) → Keeps (of-detector s ws o)
   detector-keeps o h e = rw (h (put-refuses open-line (o .answer) e))
 
-  searcher-keeps : (o : Outcome SearchedPitch Search) → (accepts (o .answer) ≡ false → o .after ≡ s .searcher) → Keeps (of-searcher s o)
+  searcher-keeps : (o : Outcome SearchedPitch Search) → (accepts (o .answer) ≡ false → o .after ≡ s .searcher) → Keeps (of-searcher s ws o)
   searcher-keeps o h e = rw (h (put-refuses pitch-line (o .answer) e))
 
-  reader-keeps : (o : Outcome PitchLag Reader) → (accepts (o .answer) ≡ false → o .after ≡ s .reader) → Keeps (of-reader s o)
+  reader-keeps : (o : Outcome PitchLag Reader) → (accepts (o .answer) ≡ false → o .after ≡ s .reader) → Keeps (of-reader s ws o)
   reader-keeps o h e = rw (h (put-refuses lag-line (o .answer) e))
 
-  words-keep : (ws : List ℤ) (a : Told (Unit {0})) → Keeps (with-words s ws a)
-  words-keep ws (values u) e = refl
-  words-keep ws (refused n d) e = refl
+  words-keep : (new : List ℤ) (a : Told (Unit {0})) → Keeps (with-words s ws new a)
+  words-keep new (values u) e = refl
+  words-keep new (refused n d) e = refl
 
-  filters-keep : (o : Outcome (Unit {0}) PreparedSubframe) → Keeps (of-filters s o)
+  filters-keep : (o : Outcome (Unit {0}) PreparedSubframe) → Keeps (of-filters s ws o)
   filters-keep o = words-keep (in-order (o .after)) (o .answer)
 
-  kind-keeps : (kind : ℕ) (bs : List ℕ) → Keeps (of-kind s kind bs)
+  kind-keeps : (kind : ℕ) (bs : List ℕ) → Keeps (of-kind s ws kind bs)
   unfolding of-kind half-frame pitch pulse gain filtering lag-reading
   kind-keeps zero bs e = contradiction (sym e)
   kind-keeps (suc zero) bs e = detector-keeps (Pitch-ol (s .detector) _) (detector-kept (s .detector) _) e
@@ -74,17 +74,17 @@ module _ (s : Selection) where
   kind-keeps (suc (suc (suc (suc (suc zero))))) bs e = filters-keep (prepare _ _ _ _ _ _) e
   kind-keeps (suc (suc (suc (suc (suc (suc k)))))) bs e = reader-keeps (read (s .reader) _ _) (reader-kept (s .reader) _ _) e
 
-  standing-keeps : (bs : List ℕ) (h : Told Standing) → Keeps (of-standing s bs h)
+  standing-keeps : (bs : List ℕ) (h : Told Standing) → Keeps (of-standing s ws bs h)
   standing-keeps bs (values nothing) e = refl
   standing-keeps bs (values (whole kind next)) e = kind-keeps kind bs e
   standing-keeps bs (refused n d) e = refl
 
   -- of every feed and place
-  pub refused-keeps : (feed : List ℕ) (at : ℕ) → Keeps (step s feed at)
-  unfolding step
+  pub refused-keeps : (feed : List ℕ) (at : ℕ) → Keeps (step-lent s ws feed at)
+  unfolding step-lent
   refused-keeps feed at = standing-keeps (body feed at) (header feed at)
 
   -- a record of kind 0 makes all three fresh
-  pub reset-freshens : (feed : List ℕ) (at next : ℕ) → header feed at ≡ values (whole 0 next) → step s feed at .after ≡ fresh-selection
-  unfolding step of-kind
+  pub reset-freshens : (feed : List ℕ) (at next : ℕ) → header feed at ≡ values (whole 0 next) → step-lent s ws feed at .after ≡ fresh-selection
+  unfolding step-lent of-kind
   reset-freshens feed at next e = rw e

@@ -14,11 +14,14 @@ use pitch::Reading;
 use pitch_search::Found;
 use pitch_search::Search;
 use refusal::Refusal;
+ghost use mathlib.Core.List.{List};
 ghost use mathlib.Core.Path.{_≡_};
 ghost use Prim.Native.Nat.{_+_, _*_, _≤_, _<_};
+ghost use lib.IntN.{ℤ};
 ghost use lib.ListN.{length};
 ghost use Rattle.fixed.specs.Lists.{at};
 ghost use Rattle.refusal.specs.Refused.{put};
+ghost use Rattle.open_loop.specs.Detectors.{Pitch-ol};
 ghost use Rattle.pitch.specs.Kinds.{told-lag};
 ghost use Rattle.pitch.specs.Readers.{told-reading};
 ghost use Rattle.pitch_search.specs.Searches.{told};
@@ -26,8 +29,9 @@ ghost use Rattle.encoder_filtering.specs.Subframes.{lists, prepare};
 ghost use Rattle.codebook_search.specs.Pulses.{told-words};
 ghost use Rattle.gain.specs.Rows.{told-row};
 ghost use Rattle.feed.specs.Records.{body-length};
+ghost use Rattle.feed.specs.Words.{words};
 ghost use Rattle.selection.specs.Lines.{hertz, open-line, pitch-line, pulse-line, gain-line, lag-line, told-answer};
-ghost use Rattle.selection.specs.Steps.{told-step, no-words, said, fresh-selection, in-order, of-filters, zeros, half-frame, pitch, pulse, gain, filtering, lag-reading, of-kind, step};
+ghost use Rattle.selection.specs.Steps.{told-step, selection-of, told-lent, said, fresh-selection, in-order, of-filters, zeros, pitch, pulse, gain, filtering, lag-reading, of-kind, step-lent, step};
 
 const SAMPLE_RATE: u16 = 8000;
 
@@ -66,6 +70,13 @@ pub struct Stepped {
     pub words: [i16; 160],
 }
 
+// What is left of it where detector and words are lent.
+pub struct LentStep {
+    pub answer: Answer,
+    pub searcher: Search,
+    pub reader: Reader,
+}
+
 impl Selection {
     pub fn fresh() -> Self
         ensures { λ r. ⌜ r ≡ fresh-selection ⌝ }
@@ -81,63 +92,130 @@ impl Selection {
 pub fn step(selection: Selection, feed: &[u8], at: usize) -> Stepped
     ensures { λ r. ⌜ told-step r ≡ step selection (now (feed .entry)) at ⌝ }
 {
-    match feed::header_at(feed, at) {
-        Header::End => said(selection, Answer::End),
-        Header::Record { kind, next: _ } => taken(selection, kind, feed::body_at(feed, at)),
-        Header::Refused(refusal) => said(selection, Answer::Refused(refusal)),
-    }
-}
-
-// An answer with no words beside it.
-fn said(selection: Selection, answer: Answer) -> Stepped
-    ensures { λ r. ⌜ told-step r ≡ said selection (told-answer answer no-words) ⌝ }
-{
+    let detector = selection.detector;
+    let mut history = detector.history_q0;
+    let mut words = [0i16; 160];
+    let lent = step_lent(
+        selection.searcher,
+        selection.reader,
+        &mut history,
+        &mut words,
+        feed,
+        at,
+    );
+    let answer = lent.answer;
+    let searcher = lent.searcher;
+    let reader = lent.reader;
     Stepped {
         answer,
-        selection,
-        words: [0; 160],
-    }
-}
-
-fn taken(selection: Selection, kind: u8, body: &[u8]) -> Stepped
-    requires { ⌜ (kind ≤ 6) × (length (now body) ≡ body-length kind) ⌝ }
-    ensures { λ r. ⌜ told-step r ≡ of-kind selection kind (now (body .entry)) ⌝ }
-{
-    match kind {
-        0 => said(Selection::fresh(), Answer::Reset),
-        1 => half_frame_record(selection, body),
-        2 => pitch_record(selection, body),
-        3 => pulse_record(selection, body),
-        4 => gain_record(selection, body),
-        5 => filtering_record(selection, body),
-        _ => lag_record(selection, body),
-    }
-}
-
-fn half_frame_record(selection: Selection, body: &[u8]) -> Stepped
-    requires { ⌜ length (now body) ≡ 160 ⌝ }
-    ensures { λ r. ⌜ told-step r ≡ half-frame selection (now (body .entry)) ⌝ }
-{
-    let mut samples = [0i16; 80];
-    feed::read_words(body, 0, &mut samples);
-    let detector = selection.detector;
-    let step = detector.push(&samples);
-    let lag = step.lag;
-    let after = step.detector;
-    let searcher = selection.searcher;
-    let reader = selection.reader;
-    said(
-        Selection {
-            detector: after,
+        selection: Selection {
+            detector: Detector {
+                history_q0: history,
+            },
             searcher,
             reader,
         },
-        open_answer(lag),
-    )
+        words,
+    }
+}
+
+// The detector's old words are lent and updated, and so are the words beside the answer, which only a filtering record writes.
+pub fn step_lent(
+    searcher: Search,
+    reader: Reader,
+    history_q0: &mut [i16; 143],
+    words: &mut [i16; 160],
+    feed: &[u8],
+    at: usize,
+) -> LentStep
+    ensures { λ r. ⌜ told-lent r (now («history_q0» .exit)) (now (words .exit)) ≡ step-lent (selection-of (now («history_q0» .entry)) searcher reader) (now (words .entry)) (now (feed .entry)) at ⌝ }
+{
+    match feed::header_at(feed, at) {
+        Header::End => LentStep {
+            answer: Answer::End,
+            searcher,
+            reader,
+        },
+        Header::Record { kind, next: _ } => taken(
+            searcher,
+            reader,
+            history_q0,
+            words,
+            kind,
+            feed::body_at(feed, at),
+        ),
+        Header::Refused(refusal) => LentStep {
+            answer: Answer::Refused(refusal),
+            searcher,
+            reader,
+        },
+    }
+}
+
+fn taken(
+    searcher: Search,
+    reader: Reader,
+    history_q0: &mut [i16; 143],
+    words: &mut [i16; 160],
+    kind: u8,
+    body: &[u8],
+) -> LentStep
+    requires { ⌜ (kind ≤ 6) × (length (now body) ≡ body-length kind) ⌝ }
+    ensures { λ r. ⌜ told-lent r (now («history_q0» .exit)) (now (words .exit)) ≡ of-kind (selection-of (now («history_q0» .entry)) searcher reader) (now (words .entry)) kind (now (body .entry)) ⌝ }
+{
+    match kind {
+        0 => {
+            *history_q0 = [0; 143];
+            LentStep {
+                answer: Answer::Reset,
+                searcher: Search::fresh(),
+                reader: Reader::fresh(),
+            }
+        }
+        1 => LentStep {
+            answer: half_frame_record(history_q0, body),
+            searcher,
+            reader,
+        },
+        2 => pitch_record(searcher, reader, body),
+        3 => LentStep {
+            answer: pulse_record(body),
+            searcher,
+            reader,
+        },
+        4 => LentStep {
+            answer: gain_record(body),
+            searcher,
+            reader,
+        },
+        5 => LentStep {
+            answer: filtering_record(words, body),
+            searcher,
+            reader,
+        },
+        _ => lag_record(searcher, reader, body),
+    }
+}
+
+fn half_frame_record(history_q0: &mut [i16; 143], body: &[u8]) -> Answer
+    requires { ⌜ length (now body) ≡ 160 ⌝ }
+    ensures { λ r. ⌜ ((ws : List ℤ) → told-answer r ws ≡ put open-line (Pitch-ol (record { «history_q0» = now («history_q0» .entry) }) (words (now (body .entry)) 0 80) .answer))
+        × (now («history_q0» .exit) ≡ Pitch-ol (record { «history_q0» = now («history_q0» .entry) }) (words (now (body .entry)) 0 80) .after .«history_q0») ⌝ }
+{
+    let mut samples = [0i16; 80];
+    feed::read_words(body, 0, &mut samples);
+    let old = *history_q0;
+    let detector = Detector { history_q0: old };
+    let step = detector.push(&samples);
+    let lag = step.lag;
+    let after = step.detector;
+    let kept = after.history_q0;
+    *history_q0 = kept;
+    open_answer(lag)
 }
 
 fn open_answer(lag: OpenLoop) -> Answer
-    ensures { λ r. ⌜ told-answer r no-words ≡ put open-line (told-lag lag) ⌝ }
+    ensures { λ r. ⌜ ((ws : List ℤ) → told-answer r ws ≡ put open-line (told-lag lag)) ⌝ }
 {
     match lag {
         OpenLoop::Lag(found) => Answer::Open(found.samples()),
@@ -145,9 +223,9 @@ fn open_answer(lag: OpenLoop) -> Answer
     }
 }
 
-fn pitch_record(selection: Selection, body: &[u8]) -> Stepped
+fn pitch_record(searcher: Search, reader: Reader, body: &[u8]) -> LentStep
     requires { ⌜ length (now body) ≡ 551 ⌝ }
-    ensures { λ r. ⌜ told-step r ≡ pitch selection (now (body .entry)) ⌝ }
+    ensures { λ r. ⌜ ((history ws : List ℤ) → told-lent r history ws ≡ pitch (selection-of history searcher reader) ws (now (body .entry))) ⌝ }
 {
     let mut excitation = [0i16; 194];
     let mut target = [0i16; 40];
@@ -155,7 +233,6 @@ fn pitch_record(selection: Selection, body: &[u8]) -> Stepped
     feed::read_words(body, 1, &mut excitation);
     feed::read_words(body, 389, &mut target);
     feed::read_words(body, 469, &mut impulse);
-    let searcher = selection.searcher;
     let step = searcher.search(
         &excitation,
         &target,
@@ -166,20 +243,15 @@ fn pitch_record(selection: Selection, body: &[u8]) -> Stepped
     );
     let found = step.found;
     let after = step.searcher;
-    let detector = selection.detector;
-    let reader = selection.reader;
-    said(
-        Selection {
-            detector,
-            searcher: after,
-            reader,
-        },
-        pitch_answer(found),
-    )
+    LentStep {
+        answer: pitch_answer(found),
+        searcher: after,
+        reader,
+    }
 }
 
 fn pitch_answer(found: Found) -> Answer
-    ensures { λ r. ⌜ told-answer r no-words ≡ put pitch-line (told found) ⌝ }
+    ensures { λ r. ⌜ ((ws : List ℤ) → told-answer r ws ≡ put pitch-line (told found)) ⌝ }
 {
     match found {
         Found::Pitch(searched) => {
@@ -194,9 +266,9 @@ fn pitch_answer(found: Found) -> Answer
     }
 }
 
-fn pulse_record(selection: Selection, body: &[u8]) -> Stepped
+fn pulse_record(body: &[u8]) -> Answer
     requires { ⌜ length (now body) ≡ 163 ⌝ }
-    ensures { λ r. ⌜ told-step r ≡ pulse selection (now (body .entry)) ⌝ }
+    ensures { λ r. ⌜ ((s : Selection) (ws : List ℤ) → told-answer r ws ≡ pulse s ws (now (body .entry)) .answer) ⌝ }
 {
     let mut target = [0i16; 40];
     let mut impulse = [0i16; 40];
@@ -214,11 +286,11 @@ fn pulse_record(selection: Selection, body: &[u8]) -> Stepped
         &mut filtered,
         &mut sharpened,
     );
-    said(selection, pulses_answer(found))
+    pulses_answer(found)
 }
 
 fn pulses_answer(found: Pulses) -> Answer
-    ensures { λ r. ⌜ told-answer r no-words ≡ put pulse-line (told-words found) ⌝ }
+    ensures { λ r. ⌜ ((ws : List ℤ) → told-answer r ws ≡ put pulse-line (told-words found)) ⌝ }
 {
     match found {
         Pulses::Words(words) => Answer::Pulses(words),
@@ -226,9 +298,9 @@ fn pulses_answer(found: Pulses) -> Answer
     }
 }
 
-fn gain_record(selection: Selection, body: &[u8]) -> Stepped
+fn gain_record(body: &[u8]) -> Answer
     requires { ⌜ length (now body) ≡ 245 ⌝ }
-    ensures { λ r. ⌜ told-step r ≡ gain selection (now (body .entry)) ⌝ }
+    ensures { λ r. ⌜ ((s : Selection) (ws : List ℤ) → told-answer r ws ≡ gain s ws (now (body .entry)) .answer) ⌝ }
 {
     let mut target = [0i16; 40];
     let mut adaptive = [0i16; 40];
@@ -244,11 +316,11 @@ fn gain_record(selection: Selection, body: &[u8]) -> Stepped
         unsigned(body[242], body[243]),
         body[244],
     );
-    said(selection, gain_answer(quantized))
+    gain_answer(quantized)
 }
 
 fn gain_answer(quantized: Quantized) -> Answer
-    ensures { λ r. ⌜ told-answer r no-words ≡ put gain-line (told-row quantized) ⌝ }
+    ensures { λ r. ⌜ ((ws : List ℤ) → told-answer r ws ≡ put gain-line (told-row quantized)) ⌝ }
 {
     match quantized {
         Quantized::Row(row) => Answer::Gain(row),
@@ -262,9 +334,9 @@ fn unsigned(high: u8, low: u8) -> u16
     high as u16 * 256 + low as u16
 }
 
-fn filtering_record(selection: Selection, body: &[u8]) -> Stepped
+fn filtering_record(words: &mut [i16; 160], body: &[u8]) -> Answer
     requires { ⌜ length (now body) ≡ 184 ⌝ }
-    ensures { λ r. ⌜ told-step r ≡ filtering selection (now (body .entry)) ⌝ }
+    ensures { λ r. ⌜ ((s : Selection) → said s (now (words .exit)) (told-answer r (now (words .exit))) ≡ filtering s (now (words .entry)) (now (body .entry))) ⌝ }
 {
     let mut speech = [0i16; 50];
     let mut coefficients = [0i16; 11];
@@ -277,7 +349,7 @@ fn filtering_record(selection: Selection, body: &[u8]) -> Stepped
     feed::read_words(body, 144, &mut errors);
     feed::read_words(body, 164, &mut weighting);
     prepared(
-        selection,
+        words,
         &speech,
         &coefficients,
         &quantized,
@@ -287,14 +359,14 @@ fn filtering_record(selection: Selection, body: &[u8]) -> Stepped
 }
 
 fn prepared(
-    selection: Selection,
+    words: &mut [i16; 160],
     speech: &[i16],
     coefficients: &[i16],
     quantized: &[i16],
     errors: &[i16],
     weighting: &[i16],
-) -> Stepped
-    ensures { λ r. ⌜ told-step r ≡ of-filters selection (prepare (now (speech .entry)) (now (coefficients .entry)) (now (quantized .entry)) (now (errors .entry)) (now (weighting .entry)) (lists zeros zeros zeros zeros)) ⌝ }
+) -> Answer
+    ensures { λ r. ⌜ ((s : Selection) → said s (now (words .exit)) (told-answer r (now (words .exit))) ≡ of-filters s (now (words .entry)) (prepare (now (speech .entry)) (now (coefficients .entry)) (now (quantized .entry)) (now (errors .entry)) (now (weighting .entry)) (lists zeros zeros zeros zeros))) ⌝ }
 {
     let mut residual = [0i16; 40];
     let mut impulse = [0i16; 40];
@@ -312,12 +384,12 @@ fn prepared(
         &mut error,
     );
     match answer {
-        Filtering::Written => Stepped {
-            answer: Answer::Filter,
-            selection,
-            words: joined(&residual, &impulse, &target, &error),
-        },
-        Filtering::Refused(refusal) => said(selection, Answer::Refused(refusal)),
+        Filtering::Written => {
+            let filtered = joined(&residual, &impulse, &target, &error);
+            *words = filtered;
+            Answer::Filter
+        }
+        Filtering::Refused(refusal) => Answer::Refused(refusal),
     }
 }
 
@@ -359,28 +431,22 @@ fn joined_at(
     error[i - 120]
 }
 
-fn lag_record(selection: Selection, body: &[u8]) -> Stepped
+fn lag_record(searcher: Search, reader: Reader, body: &[u8]) -> LentStep
     requires { ⌜ length (now body) ≡ 2 ⌝ }
-    ensures { λ r. ⌜ told-step r ≡ lag-reading selection (now (body .entry)) ⌝ }
+    ensures { λ r. ⌜ ((history ws : List ℤ) → told-lent r history ws ≡ lag-reading (selection-of history searcher reader) ws (now (body .entry))) ⌝ }
 {
-    let reader = selection.reader;
     let step = reader.read(body[0], body[1]);
     let reading = step.reading;
     let after = step.reader;
-    let detector = selection.detector;
-    let searcher = selection.searcher;
-    said(
-        Selection {
-            detector,
-            searcher,
-            reader: after,
-        },
-        reading_answer(reading),
-    )
+    LentStep {
+        answer: reading_answer(reading),
+        searcher,
+        reader: after,
+    }
 }
 
 fn reading_answer(reading: Reading) -> Answer
-    ensures { λ r. ⌜ told-answer r no-words ≡ put lag-line (told-reading reading) ⌝ }
+    ensures { λ r. ⌜ ((ws : List ℤ) → told-answer r ws ≡ put lag-line (told-reading reading)) ⌝ }
 {
     match reading {
         Reading::Lag(lag) => Answer::Lag {

@@ -5,16 +5,19 @@ use Rattle.select.proofs.main.Statement.{statement}
 use Rattle.select.proofs.main.Tie as tie
 
 abbrev Inv-loop : tie.InvT-loop
-Inv-loop input₀ output₀ state₀ turns₀ input output state turns = (length input ≡ 65536) × (length output ≡ 65536)
+Inv-loop input₀ output₀ history₀ words₀ state₀ turns₀ input output history words state turns = (length input ≡ 65536) × (length output ≡ 65536)
 
 abbrev μ-loop : tie.MeasureT-loop
-μ-loop input₀ output₀ state₀ turns₀ input output state turns = turns
+μ-loop input₀ output₀ history₀ words₀ state₀ turns₀ input output history words state turns = turns
 
 large-buffer-requires : tie.Need-large-buffer-requires Inv-loop μ-loop
 large-buffer-requires c κs = search needs
 
 large-buffer-requires-2 : tie.Need-large-buffer-requires-2 Inv-loop μ-loop
 large-buffer-requires-2 c κs = search needs
+
+fresh-requires : tie.Need-fresh-requires Inv-loop μ-loop
+fresh-requires c κs = search needs
 
 slice-aggregate-begun : tie.Need-slice-aggregate-begun Inv-loop μ-loop
 slice-aggregate-begun c = search needs
@@ -60,6 +63,7 @@ main-spec =
     μ-loop
     large-buffer-requires
     large-buffer-requires-2
+    fresh-requires
     slice-aggregate-begun
     begun-requires
     loop-holds

@@ -6,10 +6,10 @@ use Rattle.select.proofs.run.Statement.{statement}
 use Rattle.select.proofs.run.Tie as tie
 
 abbrev Inv-loop : tie.InvT-loop
-Inv-loop state input output₀ have feed next₀ end₀ turns₀ output next end turns = length output ≡ length output₀
+Inv-loop state history₀ words₀ input output₀ have feed next₀ end₀ turns₀ history words output next end turns = length output ≡ length output₀
 
 abbrev μ-loop : tie.MeasureT-loop
-μ-loop state input output₀ have feed next₀ end₀ turns₀ output next end turns = turns
+μ-loop state history₀ words₀ input output₀ have feed next₀ end₀ turns₀ history words output next end turns = turns
 
 closed-requires : tie.Need-closed-requires Inv-loop μ-loop
 closed-requires c κs = search needs

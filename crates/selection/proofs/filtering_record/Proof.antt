@@ -56,15 +56,15 @@ prepared-requires c κs = search needs
 
 returns : tie.Need-returns
 unfolding filtering
-returns c =
-    let w = c .before .before .before .before .before .before .before in
+returns c s =
+    let w = c .before .before .before .before .before .before .before .before in
     let e = w .before .before .before in
     let q = e .before .before .before in
     let k = q .before .before .before in
     let x = k .before .before .before in
     let bs = x .before .before .before .args .body .now in
     rw (
-      c .prepared .ensures,
+      c .prepared .ensures s,
       w .read-words5 .ensures,
       e .read-words4 .ensures,
       q .read-words3 .ensures,

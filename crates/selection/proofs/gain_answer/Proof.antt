@@ -9,10 +9,10 @@ enum-known-quantized-2 : tie.Need-enum-known-quantized-2
 enum-known-quantized-2 c = search needs
 
 returns : tie.Need-returns
-returns c = rw (c .before .quantized .given .1)
+returns c ws = rw (c .before .quantized .given .1)
 
 returns-2 : tie.Need-returns-2
-returns-2 c = rw (c .before .quantized2 .given .1)
+returns-2 c ws = rw (c .before .quantized2 .given .1)
 
 pub gain-answer-spec : {M : Type 1} → statement M
 gain-answer-spec =

@@ -62,14 +62,10 @@ quantize-requires c κs = search needs
 gain-answer-requires : tie.Need-gain-answer-requires
 gain-answer-requires c κs = search needs
 
-said-requires : tie.Need-said-requires
-said-requires c κs = search needs
-
 returns : tie.Need-returns
 unfolding gain
-returns c =
-    let a = c .before in
-    let q = a .before in
+returns c s ws =
+    let q = c .before in
     let u = q .before .before in
     let g = u .before .before .before in
     let y = g .before .before .before .before .before .before .before in
@@ -77,8 +73,7 @@ returns c =
     let t = x .before .before .before in
     let bs = t .before .before .before .args .body .now in
     rw (
-      c .said .ensures,
-      a .gain-answer .ensures,
+      c .gain-answer .ensures ws,
       q .quantize .ensures,
       u .unsigned .ensures,
       got w16 (g .word .ok) (g .word .ensures),
@@ -112,5 +107,4 @@ gain-record-spec =
     shared-slice-read-quantize
     quantize-requires
     gain-answer-requires
-    said-requires
     returns)

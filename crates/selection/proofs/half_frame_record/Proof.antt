@@ -2,7 +2,6 @@ use borrow.Author.Needs.{needs}
 use mathlib.Core.Path.{refl}
 use native.Mathlib.Omega.{arith}
 use Rattle.feed.proofs.Wordings.{words-read}
-use Rattle.selection.specs.Steps.{half-frame}
 use Rattle.selection.proofs.half_frame_record.Statement.{statement}
 use Rattle.selection.proofs.half_frame_record.Tie as tie
 
@@ -21,23 +20,13 @@ push-requires c κs = search needs
 open-answer-requires : tie.Need-open-answer-requires
 open-answer-requires c κs = search needs
 
-said-requires : tie.Need-said-requires
-said-requires c κs = search needs
-
 returns : tie.Need-returns
-unfolding half-frame
 returns c =
-    let a = c .before in
-    let p = a .before .before .before .before in
+    let p = c .before .before .before in
     let w = p .before .before .before .before in
-    let s = w .before .before .before in
-    rw (
-      c .said .ensures,
-      a .open-answer .ensures,
-      p .push .ensures .0,
-      p .push .ensures .1,
-      w .read-words .ensures,
-      words-read (s .args .body .now) 0 80 _ refl (omega arith),
+    let bs = w .before .before .before .args .body .now in (
+      λ ws. rw (c .open-answer .ensures ws, p .push .ensures .0, w .read-words .ensures, words-read bs 0 80 _ refl (omega arith)),
+      rw (p .push .ensures .1, w .read-words .ensures, words-read bs 0 80 _ refl (omega arith)),
     )
 
 pub half-frame-record-spec : {M : Type 1} → statement M
@@ -49,5 +38,4 @@ half-frame-record-spec =
     slice-aggregate-push
     push-requires
     open-answer-requires
-    said-requires
     returns)

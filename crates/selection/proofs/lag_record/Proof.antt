@@ -15,15 +15,11 @@ read-requires c κs = search needs
 reading-answer-requires : tie.Need-reading-answer-requires
 reading-answer-requires c κs = search needs
 
-said-requires : tie.Need-said-requires
-said-requires c κs = search needs
-
 returns : tie.Need-returns
 unfolding lag-reading
-returns c =
-    let a = c .before in
-    let r = a .before .before .before .before in
-    rw (c .said .ensures, a .reading-answer .ensures, r .read .ensures .0, r .read .ensures .1)
+returns c history ws =
+    let r = c .before .before in
+    rw (c .reading-answer .ensures ws, r .read .ensures .0, r .read .ensures .1)
 
 pub lag-record-spec : {M : Type 1} → statement M
 lag-record-spec =
@@ -33,5 +29,4 @@ lag-record-spec =
     shared-slice-read-read-2
     read-requires
     reading-answer-requires
-    said-requires
     returns)

@@ -12,10 +12,10 @@ enum-known-lag-2 : tie.Need-enum-known-lag-2
 enum-known-lag-2 c = search needs
 
 returns : tie.Need-returns
-returns c = rw (c .before .before .lag .given .1, c .samples .ensures)
+returns c ws = rw (c .before .before .lag .given .1, c .samples .ensures)
 
 returns-2 : tie.Need-returns-2
-returns-2 c = rw (c .before .lag2 .given .1)
+returns-2 c ws = rw (c .before .lag2 .given .1)
 
 pub open-answer-spec : {M : Type 1} → statement M
 open-answer-spec =

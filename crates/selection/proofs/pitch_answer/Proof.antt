@@ -12,10 +12,10 @@ enum-known-found-2 : tie.Need-enum-known-found-2
 enum-known-found-2 c = search needs
 
 returns : tie.Need-returns
-returns c = rw (c .before .before .before .found .given .1, c .hertz .ensures)
+returns c ws = rw (c .before .before .before .found .given .1, c .hertz .ensures)
 
 returns-2 : tie.Need-returns-2
-returns-2 c = rw (c .before .found2 .given .1)
+returns-2 c ws = rw (c .before .found2 .given .1)
 
 pub pitch-answer-spec : {M : Type 1} → statement M
 pitch-answer-spec =

@@ -54,21 +54,16 @@ search-requires c κs = search needs
 pitch-answer-requires : tie.Need-pitch-answer-requires
 pitch-answer-requires c κs = search needs
 
-said-requires : tie.Need-said-requires
-said-requires c κs = search needs
-
 returns : tie.Need-returns
 unfolding pitch
-returns c =
-    let a = c .before in
-    let f = a .before .before .before .before in
-    let h = f .before .before .before .before .before .before .before .before .before in
+returns c history ws =
+    let f = c .before .before in
+    let h = f .before .before .before .before .before .before .before .before in
     let t = h .before .before .before in
     let x = t .before .before .before in
     let bs = x .before .before .before .args .body .now in
     rw (
-      c .said .ensures,
-      a .pitch-answer .ensures,
+      c .pitch-answer .ensures ws,
       f .search .ensures .0,
       f .search .ensures .1,
       h .read-words3 .ensures,
@@ -99,5 +94,4 @@ pitch-record-spec =
     shared-slice-read-search-3
     search-requires
     pitch-answer-requires
-    said-requires
     returns)

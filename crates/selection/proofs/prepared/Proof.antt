@@ -26,20 +26,17 @@ joined-requires c κs = search needs
 enum-known-answer : tie.Need-enum-known-answer
 enum-known-answer c = search needs
 
-said-requires : tie.Need-said-requires
-said-requires c κs = search needs
-
 returns : tie.Need-returns
-returns c =
+returns c s =
     let t = c .before .before .before .before .before in
     let p = t .before .before .before .before .before .before in
     rw (c .joined .ensures, ← p .prepare .ensures .0, ← p .prepare .ensures .1, t .enum-told .given .1)
 
 returns-2 : tie.Need-returns-2
-returns-2 c =
-    let a = c .before .before in
+returns-2 c s =
+    let a = c .before in
     let p = a .before .before .before .before .before .before in
-    rw (c .said .ensures, ← p .prepare .ensures .0, ← p .prepare .ensures .1, a .answer .given .1)
+    rw (← p .prepare .ensures .0, ← p .prepare .ensures .1, a .answer .given .1)
 
 pub prepared-spec : {M : Type 1} → statement M
 prepared-spec =
@@ -53,6 +50,5 @@ prepared-spec =
     enum-told
     joined-requires
     enum-known-answer
-    said-requires
     returns
     returns-2)

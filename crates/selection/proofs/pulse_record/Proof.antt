@@ -56,21 +56,16 @@ search-requires c κs = search needs
 pulses-answer-requires : tie.Need-pulses-answer-requires
 pulses-answer-requires c κs = search needs
 
-said-requires : tie.Need-said-requires
-said-requires c κs = search needs
-
 returns : tie.Need-returns
 unfolding pulse
-returns c =
-    let a = c .before in
-    let f = a .before .before .before .before in
+returns c s ws =
+    let f = c .before .before .before .before in
     let g = f .before .before .before .before in
     let h = g .before .before .before .before .before .before .before in
     let t = h .before .before .before in
     let bs = t .before .before .before .args .body .now in
     rw (
-      c .said .ensures,
-      a .pulses-answer .ensures,
+      c .pulses-answer .ensures ws,
       f .search .ensures .0,
       got w16 (g .word .ok) (g .word .ensures),
       h .read-words2 .ensures,
@@ -99,5 +94,4 @@ pulse-record-spec =
     slice-aggregate-search-5
     search-requires
     pulses-answer-requires
-    said-requires
     returns)
