@@ -1,4 +1,4 @@
--- A doubled product shifted to the left and its high word taken is the product shifted to the right and clipped once.
+-- A long shifted to the left and its high word taken is the long shifted to the right and clipped once; and so a doubled product.
 use mathlib.Core.Path.{_≡_, sym, ap, subst, _∙_}
 use mathlib.Core.Bool.{Bool, true, false}
 use Prim.Native.Nat.{ℕ, suc, _+_, _-_, _*_, _/_, _^_, _≤_, min}
@@ -6,8 +6,8 @@ use native.Mathlib.Nat.{mul-div-mul-right, div-div-eq-div-mul, mul-comm}
 use native.Mathlib.Omega.{arith}
 use lib.Arith.{digits-div}
 use lib.Dec.{leb}
-use lib.IntN.{ℤ, pos, negsuc, negℤ, _*ℤ_}
-use lib.Pow.{pow-pos, pow-add, suc-ones}
+use lib.IntN.{ℤ, pos, negsuc, _*ℤ_, *ℤ-comm}
+use lib.Pow.{pow-add, suc-ones}
 use lib.Signed.{shrZ}
 use borrow.Author.Tests.{leb-true, leb-false}
 use Rattle.fixed.specs.Clip.{clip}
@@ -45,28 +45,24 @@ shr-scaled (negsuc a) q p =
     ∙ sym (div-div-eq-div-mul (a * suc p + p) (suc p) q)
     ∙ ap (λ (n : ℕ). n / q) (digits-div a {m = suc p} {r = p} (omega arith)))
 
-doubled-scaled : (z : ℤ) (m : ℕ) → pos 2 *ℤ z *ℤ pos m ≡ z *ℤ pos (2 * m)
-doubled-scaled (pos a) m = ap pos (omega arith)
-doubled-scaled (negsuc a) m =
-    let e : suc (2 * a + 1) * m ≡ suc a * (2 * m) = omega arith in
-    ap (λ (z : ℤ). z *ℤ pos m) (neg-pos (2 * suc a) (2 * a + 1) (omega arith)) ∙ ap (λ (n : ℕ). negℤ (pos n)) e
+-- a number shifted to the left and its high word taken
+pub high-shifted : (z : ℤ) (n : ℕ) → n ≤ 16 → extract-h (shift-at 31 z (pos n)) ≡ clip 15 (shrZ z (2 ^ (16 - n)))
+unfolding extract-h shift-at
+high-shifted z n h =
+    let e : 65536 ≡ 2 ^ (16 - n) * 2 ^ n = ap (λ (k : ℕ). 2 ^ k) {x = 16} {y = 16 - n + n} (omega arith) ∙ pow-add 2 (16 - n) n in
+    high-clip (z *ℤ pos (2 ^ n))
+    ∙ ap (clip 15)
+    (ap (shrZ (z *ℤ pos (2 ^ n))) e
+    ∙ subst (λ (m : ℕ). shrZ (z *ℤ pos m) (2 ^ (16 - n) * m) ≡ shrZ z (2 ^ (16 - n))) (suc-ones n) (shr-scaled z (2 ^ (16 - n)) (2 ^ n - 1)))
 
 pub product-high : (a b : ℤ) (n : ℕ) → n ≤ 15 → extract-h (shift-at 31 (L-mult a b) (pos n)) ≡ clip 15 (shrZ (a *ℤ b) (2 ^ (15 - n)))
 unfolding extract-h shift-at L-mult
 product-high a b n h =
     let z : ℤ = a *ℤ b in
-    let q : ℕ = 2 ^ (15 - n) in
-    let p : ℕ = 2 * 2 ^ n - 1 in
-    let s : 2 * 2 ^ n ≡ suc p = omega (arith, pow-pos n) in
-    let d : 2 * (q * 2 ^ n) ≡ q * (2 * 2 ^ n) = omega arith in
-    let e : 65536 ≡ q * suc p =
-    ap (λ (k : ℕ). 2 * 2 ^ k) {x = 15} {y = 15 - n + n} (omega arith) ∙ ap (λ (k : ℕ). 2 * k) (pow-add 2 (15 - n) n) ∙ d ∙ ap (λ (k : ℕ). q * k) s
-    in
-    ap (λ (y : ℤ). shrZ y 65536)
+    let e : 16 - n ≡ suc (15 - n) = omega arith in
+    ap extract-h
     (subst (λ (m : ℕ). clip 31 (clip 31 (pos 2 *ℤ z) *ℤ pos m) ≡ clip 31 (pos 2 *ℤ z *ℤ pos m)) (suc-ones n) (clip-scaled 31 (2 ^ n - 1) (pos 2 *ℤ z)))
-    ∙ high-clip (pos 2 *ℤ z *ℤ pos (2 ^ n))
-    ∙ ap (λ (y : ℤ). clip 15 (shrZ y 65536)) (doubled-scaled z (2 ^ n))
-    ∙ ap (clip 15)
-    (ap (λ (k : ℕ). shrZ (z *ℤ pos k) 65536) s
-    ∙ ap (λ (k : ℕ). shrZ (z *ℤ pos (suc p)) k) e
-    ∙ shr-scaled z q p)
+    ∙ high-shifted (pos 2 *ℤ z) n (omega arith)
+    ∙ ap (λ (k : ℕ). clip 15 (shrZ (pos 2 *ℤ z) (2 ^ k))) e
+    ∙ ap (λ (y : ℤ). clip 15 (shrZ y (2 ^ suc (15 - n)))) (*ℤ-comm (pos 2) z)
+    ∙ ap (clip 15) (ap (shrZ (z *ℤ pos 2)) (omega arith) ∙ shr-scaled z (2 ^ (15 - n)) 1)

@@ -336,13 +336,13 @@ pub fn interpolated(from: u16, to: u16, m: u32) -> u32
 
 // ---- Sums over 40 words, a subframe.
 
-// Terms are not negative, so the sum is clipped once.
+// Terms are not negative, so the sum is clipped once. Two squares are added before they are widened.
 pub fn energy40(x: &[i16; 40]) -> i32
     ensures { λ r. ⌜ r ≡ dot (now (x .entry)) (now (x .entry)) 40 ⌝ }
 {
     let mut sum: u64 = 0;
-    for i in 0..40 {
-        sum = sum + square(x[i]) as u64;
+    for i in 0..20 {
+        sum = sum + (square(x[i]) + square(x[20 + i])) as u64;
     }
     if 1073741823 < sum {
         return 2147483647;
