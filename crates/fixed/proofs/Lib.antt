@@ -12,6 +12,7 @@ pub mod Rows
 pub mod Choices
 pub mod Plain
 pub mod Quiet
+pub mod Reach
 pub mod Products
 pub mod LowBits
 pub mod Overflows

@@ -1,41 +1,45 @@
-use mathlib.Core.Path.{_≡_, refl, _∙_}
-use Prim.Native.Nat.{ℕ, suc, _≤_, _-_}
+use mathlib.Core.Path.{_≡_, refl}
+use Prim.Native.Nat.{ℕ, suc, _-_, _^_, _<_}
 use native.Mathlib.Omega.{arith}
 use borrow.Author.Needs.{needs}
 use lib.IntN.{ℤ, pos}
-use lib.ListN.{length, length-set}
+use lib.Signed.{mag, shrZ}
 use mir.Syntax.{w16, w32}
 use mir.Val.{toZ, ofZ}
-use Rattle.fixed.proofs.Bounds.{got}
-use Rattle.fixed.specs.Lists.{at, tabulate}
-use Rattle.fixed.proofs.Lists.{at-tabulate, Filled, filled-more, filled-all}
+use mir.Facts.{toZ-ofZ}
+use Rattle.fixed.specs.Clip.{clip}
+use Rattle.fixed.proofs.Bounds.{ok, got, shift-fits}
+use Rattle.fixed.specs.Lists.{at}
+use Rattle.fixed.proofs.Lists.{at-tabulate, Filling, filling-more, filling-all}
+use Rattle.fixed.proofs.Products.{high-shifted}
 use Rattle.pitch_convolution.specs.Filters.{products-to, convolved-at, Convolve}
 use Rattle.pitch_convolution.proofs.convolved.Statement.{statement}
 use Rattle.pitch_convolution.proofs.convolved.Tie as tie
 
+-- a sum as it was read and shifted
+shifted : (z : ℤ) (m : ℕ) {r : ℤ} → mag z < 2 ^ 31 → r ≡ clip 15 (toZ w32 (ofZ w32 (shrZ (toZ w32 (ofZ w32 z)) m))) → r ≡ clip 15 (shrZ z m)
+shifted z m h e = let f = ok w32 z h in rw (toZ-ofZ f, toZ-ofZ (shift-fits m f)) at e
+
 abbrev Inv-loop : tie.InvT-loop
-Inv-loop input impulse sums output₀ n₀ output n = (n ≤ 40) × (sums ≡ tabulate (λ k. products-to input impulse k (suc k)) 40) × (length output ≡ 40) × Filled (convolved-at input impulse) (pos 0) n output
+Inv-loop input impulse sums output₀ n₀ output n = Filling (convolved-at input impulse) 40 n output
 
 abbrev μ-loop : tie.MeasureT-loop
 μ-loop input impulse sums output₀ n₀ output n = 40 - n
 
-convolution-sums-requires : tie.Need-convolution-sums-requires Inv-loop μ-loop
-convolution-sums-requires c κs = tt
+sums-requires : tie.Need-sums-requires Inv-loop μ-loop
+sums-requires c κs = tt
 
 loop-holds : tie.Need-loop-holds Inv-loop μ-loop
-loop-holds c = (omega arith, c .convolution-sums .ensures, refl, λ k l. absurd (omega arith))
+loop-holds c = (omega arith, refl, λ k l. absurd (omega arith))
 
-mul-shift : tie.Need-mul-shift Inv-loop μ-loop
-mul-shift c = search needs
+mul-clip16 : tie.Need-mul-clip16 Inv-loop μ-loop
+mul-clip16 c = search needs
 
-array-copy-out-shift : tie.Need-array-copy-out-shift Inv-loop μ-loop
-array-copy-out-shift c = search needs
+array-copy-out-clip16 : tie.Need-array-copy-out-clip16 Inv-loop μ-loop
+array-copy-out-clip16 c = search needs
 
-shift-requires : tie.Need-shift-requires Inv-loop μ-loop
-shift-requires c κs = tt
-
-high-requires : tie.Need-high-requires Inv-loop μ-loop
-high-requires c κs = tt
+clip16-requires : tie.Need-clip16-requires Inv-loop μ-loop
+clip16-requires c κs = tt
 
 mul-output : tie.Need-mul-output Inv-loop μ-loop
 mul-output c = search needs
@@ -52,33 +56,22 @@ loop-less c = search needs
 loop-again : tie.Need-loop-again Inv-loop μ-loop
 unfolding convolved-at
 loop-again c =
-    let s = c .before .before .before .before in
+    let s = c .before .before .before in
     let a = s .before .before .args in
     let n = s .loop .n in
-    let v : ℤ = toZ w16 (ofZ w16 (c .high .result)) in
+    let v : ℤ = toZ w16 (ofZ w16 (c .clip16 .result)) in
     let f : ℕ → ℤ = λ k. products-to (a .input .now) (a .impulse .now) k (suc k) in
-    let e : v ≡ convolved-at (a .input .now) (a .impulse .now) n =
-    rw (
-      got w16 (c .high .ok) (c .high .ensures),
-      got w32 (c .before .shift .ok) (c .before .shift .ensures),
-      got w32 (c .before .before .shift-arg .given) refl,
-      s .loop .inv .1,
-      at-tabulate f (pos 0) 40 n (omega arith),
-    )
-    in (
-      omega arith,
-      s .loop .inv .1,
-      length-set (s .loop .output) n v ∙ s .loop .inv .2,
-      filled-more (convolved-at (a .input .now) (a .impulse .now)) (pos 0) n (s .loop .output) v (omega arith) e (s .loop .inv .3),
-    )
+    let q : at (s .before .sums .result) n ≡ f n = rw (s .before .sums .ensures) (at-tabulate f (pos 0) 40 n (omega arith)) in
+    let r = shifted (at (s .before .sums .result) n) (2 ^ 13) (c .before .clip16-arg .given) (c .clip16 .ensures) in
+    let e : v ≡ convolved-at (a .input .now) (a .impulse .now) n = rw (high-shifted (f n) 3 (omega arith)) (got w16 (c .clip16 .ok) (rw q at r)) in
+    filling-more (convolved-at (a .input .now) (a .impulse .now)) 40 n (s .loop .output) v (omega arith) e (s .loop .inv)
 
 returns : tie.Need-returns Inv-loop μ-loop
 unfolding Convolve
 returns c =
     let s = c .before in
     let a = s .before .before .args in
-    let e : s .loop .n ≡ 40 = omega arith in
-    filled-all (convolved-at (a .input .now) (a .impulse .now)) (pos 0) 40 (s .loop .output) (s .loop .inv .2) (rw e at (s .loop .inv .3))
+    filling-all (convolved-at (a .input .now) (a .impulse .now)) 40 (s .loop .n) (s .loop .output) (omega arith) (s .loop .inv)
 
 pub convolved-spec : {M : Type 1} → statement M
 convolved-spec =
@@ -86,12 +79,11 @@ convolved-spec =
     (tie.spec
     Inv-loop
     μ-loop
-    convolution-sums-requires
+    sums-requires
     loop-holds
-    mul-shift
-    array-copy-out-shift
-    shift-requires
-    high-requires
+    mul-clip16
+    array-copy-out-clip16
+    clip16-requires
     mul-output
     array-set-from-output
     add-n

@@ -17,8 +17,8 @@ use Rattle.fixed.specs.Lists.{at, between, L-sum}
 use Rattle.fixed.proofs.Lists.{Filled, filled-all, none-placed, at-end, placed-more}
 use Rattle.pitch_convolution.specs.Filters.{products-to}
 use Rattle.fixed.proofs.Rows.{taken, none-taken, term-more, row-done, all-taken}
-use Rattle.pitch_convolution.proofs.convolution_sums.Statement.{statement}
-use Rattle.pitch_convolution.proofs.convolution_sums.Tie as tie
+use Rattle.pitch_convolution.proofs.clipped_sums.Statement.{statement}
+use Rattle.pitch_convolution.proofs.clipped_sums.Tie as tie
 
 -- term i of the sum at place n, which has n + 1 terms
 abbrev term : List ℤ → List ℤ → ℕ → ℕ → ℤ
@@ -136,8 +136,8 @@ returns c =
     filled-all (λ n. L-sum (pos 0) (g n) (suc n)) (pos 0) 40 (s .loop .sums) (s .loop .inv .1)
     (all-taken g suc 40 40 (s .loop .sums) (λ n h. h) (rw e at (s .loop .inv .2)))
 
-pub convolution-sums-spec : {M : Type 1} → statement M
-convolution-sums-spec =
+pub clipped-sums-spec : {M : Type 1} → statement M
+clipped-sums-spec =
     tie.close
     (tie.spec
     Inv-loop2
