@@ -55,6 +55,14 @@ high-shifted z n h =
     (ap (shrZ (z *ℤ pos (2 ^ n))) e
     ∙ subst (λ (m : ℕ). shrZ (z *ℤ pos m) (2 ^ (16 - n) * m) ≡ shrZ z (2 ^ (16 - n))) (suc-ones n) (shr-scaled z (2 ^ (16 - n)) (2 ^ n - 1)))
 
+-- and by 16 places it is clipped alone
+pub high-whole : (z : ℤ) → extract-h (shift-at 31 z (pos 16)) ≡ clip 15 z
+high-whole z = high-shifted z 16 (omega arith) ∙ ap (clip 15) (by-one z)
+  where
+    by-one : (z : ℤ) → shrZ z 1 ≡ z
+    by-one (pos a) = ap pos (omega arith)
+    by-one (negsuc a) = ap negsuc (omega arith)
+
 pub product-high : (a b : ℤ) (n : ℕ) → n ≤ 15 → extract-h (shift-at 31 (L-mult a b) (pos n)) ≡ clip 15 (shrZ (a *ℤ b) (2 ^ (15 - n)))
 unfolding extract-h shift-at L-mult
 product-high a b n h =

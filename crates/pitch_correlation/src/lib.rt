@@ -1,9 +1,10 @@
 // The normalised correlations of the closed-loop pitch search, TS 26.073 Norm_Corr, from pitch/search.rs.
-ghost use mathlib.Core.Bool.{cond};
+ghost use mathlib.Core.Bool.{true, cond};
 ghost use mathlib.Core.Path.{_≡_};
-ghost use Prim.Native.Nat.{_+_, _<_, _≤_};
+ghost use Prim.Native.Nat.{_+_, _^_, _<_, _≤_};
 ghost use lib.ListN.{length};
-ghost use Rattle.fixed.specs.Lists.{part};
+ghost use Rattle.fixed.specs.Lists.{at, part, dot};
+ghost use Rattle.fixed.proofs.Quiet.{squared};
 ghost use Rattle.energy.specs.Root.{inverses};
 ghost use Rattle.pitch_correlation.specs.Correlations.{loud, scaled, scaled-all, update, normalized, correlations-from, Norm-Corr};
 
@@ -20,6 +21,8 @@ const FILTER_SHIFT: u32 = 3;
 const SCALED_FILTER_SHIFT: u32 = 1;
 
 const ENERGY_LIMIT: i32 = 67108864;
+
+const CLIPPED: i32 = 2147483647;
 
 // 40 words of a list, from a place on.
 fn forty(list: &[i16], from: usize) -> [i16; 40]
@@ -83,13 +86,43 @@ fn filter_shift(loud: bool) -> u32
     FILTER_SHIFT
 }
 
-fn normalized(filtered: &[i16; 40], target: &[i16; 40], roots: &[u16; 49]) -> i16
-    requires { ⌜ now roots ≡ inverses ⌝ }
+// An energy that is not clipped.
+fn is_quiet(list: &[i16; 40]) -> bool
+    ensures { λ r. ⌜ (r ≡ true → squared (at (now (list .entry))) 40 < 2 ^ 30) ⌝ }
+{
+    fixed::energy40(list) < CLIPPED
+}
+
+fn normalized(filtered: &[i16; 40], target: &[i16; 40], quiet: bool, roots: &[u16; 49]) -> i16
+    requires { ⌜ (now roots ≡ inverses) × (quiet ≡ true → squared (at (now target)) 40 < 2 ^ 30) ⌝ }
     ensures { λ r. ⌜ r ≡ normalized (now (target .entry)) (now (filtered .entry)) ⌝ }
 {
-    let root = energy::inverse_sqrt_in(fixed::energy40(filtered), roots);
-    let sum = fixed::dot40(filtered, target);
-    fixed::high(fixed::shift(fixed::multiply(sum, root), 16))
+    let energy = fixed::energy40(filtered);
+    let sum = sum_with(filtered, target, quiet & (energy < CLIPPED));
+    let root = energy::inverse_sqrt_in(energy, roots);
+    fixed::clip16(fixed::multiply(sum, root))
+}
+
+// Where neither energy is clipped, no product and no sum of products is: 2 |a b| is at most a² + b².
+fn sum_with(filtered: &[i16; 40], target: &[i16; 40], quiet: bool) -> i32
+    requires { ⌜ (quiet ≡ true → squared (at (now filtered)) 40 + squared (at (now target)) 40 < 2 ^ 31) ⌝ }
+    ensures { λ r. ⌜ r ≡ dot (now (filtered .entry)) (now (target .entry)) 40 ⌝ }
+{
+    if quiet {
+        return plain_sum(filtered, target);
+    }
+    fixed::dot40(filtered, target)
+}
+
+fn plain_sum(filtered: &[i16; 40], target: &[i16; 40]) -> i32
+    requires { ⌜ squared (at (now filtered)) 40 + squared (at (now target)) 40 < 2 ^ 31 ⌝ }
+    ensures { λ r. ⌜ r ≡ dot (now (filtered .entry)) (now (target .entry)) 40 ⌝ }
+{
+    let mut sum: i32 = 0;
+    for i in 0..40 {
+        sum = sum + fixed::exact(filtered[i], target[i]);
+    }
+    2 * sum
 }
 
 // By the lag, from low up to end: places 16 to 147. Where the lists or the lags are not those of a search, every place is 0.
@@ -131,13 +164,14 @@ fn correlated(
 {
     let roots = energy::inverse_table();
     let loud = is_loud(first);
+    let quiet = is_quiet(target);
     let mut filtered = scaled_all(first, loud);
     let mut correlation = [0i16; 148];
-    correlation[low] = normalized(&filtered, target, &roots);
+    correlation[low] = normalized(&filtered, target, quiet, &roots);
     let mut next = low + 1;
     while next < end {
         filtered = update(&filtered, excitation[HISTORY_SAMPLES - next], impulse, loud);
-        correlation[next] = normalized(&filtered, target, &roots);
+        correlation[next] = normalized(&filtered, target, quiet, &roots);
         next += 1;
     }
     correlation

@@ -16,7 +16,7 @@ use Rattle.pitch_correlation.proofs.correlated.Statement.{statement}
 use Rattle.pitch_correlation.proofs.correlated.Tie as tie
 
 abbrev Inv-loop : tie.InvT-loop
-Inv-loop first excitation target impulse low end roots loud filtered₀ correlation₀ next₀ filtered correlation next =
+Inv-loop first excitation target impulse low end roots loud quiet filtered₀ correlation₀ next₀ filtered correlation next =
     (low < next)
     × (next ≤ end)
     × (end ≤ 148)
@@ -28,7 +28,7 @@ Inv-loop first excitation target impulse low end roots loud filtered₀ correlat
     × Filled (between (correlation-at loud excitation target impulse low first) (λ k. pos 0) low next) (pos 0) 148 correlation
 
 abbrev μ-loop : tie.MeasureT-loop
-μ-loop first excitation target impulse low end roots loud filtered₀ correlation₀ next₀ filtered correlation next = end - next
+μ-loop first excitation target impulse low end roots loud quiet filtered₀ correlation₀ next₀ filtered correlation next = end - next
 
 inverse-table-requires : tie.Need-inverse-table-requires Inv-loop μ-loop
 inverse-table-requires c κs = tt
@@ -36,11 +36,16 @@ inverse-table-requires c κs = tt
 is-loud-requires : tie.Need-is-loud-requires Inv-loop μ-loop
 is-loud-requires c κs = tt
 
+is-quiet-requires : tie.Need-is-quiet-requires Inv-loop μ-loop
+is-quiet-requires c κs = tt
+
 scaled-all-requires : tie.Need-scaled-all-requires Inv-loop μ-loop
 scaled-all-requires c κs = tt
 
 normalized-requires : tie.Need-normalized-requires Inv-loop μ-loop
-normalized-requires c κs = c .before .before .before .before .inverse-table .ensures
+normalized-requires c κs =
+    let q = c .before .before .before in
+    (q .before .before .inverse-table .ensures, q .is-quiet .ensures)
 
 mul-correlation : tie.Need-mul-correlation Inv-loop μ-loop
 mul-correlation c = search needs
@@ -55,9 +60,10 @@ loop-holds : tie.Need-loop-holds Inv-loop μ-loop
 unfolding filtered correlation-at
 loop-holds c =
     let f = c .before .before .before in
-    let s = f .before .before .before in
+    let d = f .before .before in
+    let s = d .before .before in
     let a = s .args in
-    let l = f .before .is-loud .result in
+    let l = d .is-loud .result in
     let g : ℕ → ℤ = correlation-at l (a .excitation .now) (a .target .now) (a .impulse .now) (a .low) (a .first .now) in
     let v : ℤ = toZ w16 (ofZ w16 (c .normalized .result)) in
     let z : a .low - a .low ≡ 0 = omega arith in
@@ -67,8 +73,8 @@ loop-holds c =
       omega (arith, s .pre .1),
       s .pre .2,
       s .pre .0,
-      f .before .before .inverse-table .ensures,
-      f .before .is-loud .ensures,
+      d .before .inverse-table .ensures,
+      d .is-loud .ensures,
       rw (o, f .scaled-all .ensures),
       length-set (replicate 148 (pos 0)) (a .low) v,
       placed-more g (λ k. pos 0) (a .low) (a .low) 148 (replicate 148 (pos 0)) v (le-refl (a .low)) (omega (arith, s .pre .1, s .pre .2)) e (none-placed g (λ k. pos 0) (a .low) 148 (replicate 148 (pos 0)) (zeros 148)),
@@ -87,7 +93,9 @@ update-requires : tie.Need-update-requires Inv-loop μ-loop
 update-requires c κs = tt
 
 normalized-requires-2 : tie.Need-normalized-requires-2 Inv-loop μ-loop
-normalized-requires-2 c κs = c .before .before .before .before .before .before .loop .inv .4
+normalized-requires-2 c κs =
+    let s = c .before .before .before .before .before .before in
+    (s .loop .inv .4, s .before .before .before .before .before .is-quiet .ensures)
 
 mul-correlation-2 : tie.Need-mul-correlation-2 Inv-loop μ-loop
 mul-correlation-2 c = search needs
@@ -106,9 +114,9 @@ unfolding filtered correlation-at
 loop-again c =
     let u = c .before .before .before in
     let s = u .before .before .before .before in
-    let b = s .before .before .before .before .before .before .before in
-    let a = b .args in
-    let l = s .before .before .before .before .before .is-loud .result in
+    let d = s .before .before .before .before .before .before in
+    let a = d .before .before .args in
+    let l = d .is-loud .result in
     let n = s .loop .next in
     let g : ℕ → ℤ = correlation-at l (a .excitation .now) (a .target .now) (a .impulse .now) (a .low) (a .first .now) in
     let v : ℤ = toZ w16 (ofZ w16 (c .normalized2 .result)) in
@@ -135,9 +143,9 @@ returns : tie.Need-returns Inv-loop μ-loop
 unfolding correlations-from
 returns c =
     let s = c .before in
-    let b = s .before .before .before .before .before .before .before in
-    let a = b .args in
-    let l = s .before .before .before .before .before .is-loud .result in
+    let d = s .before .before .before .before .before .before in
+    let a = d .before .before .args in
+    let l = d .is-loud .result in
     let g : ℕ → ℤ = correlation-at l (a .excitation .now) (a .target .now) (a .impulse .now) (a .low) (a .first .now) in
     let e : s .loop .next ≡ a .end = omega arith in
     rw (← (s .loop .inv .5)) (filled-all (between g (λ k. pos 0) (a .low) (a .end)) (pos 0) 148 (s .loop .correlation) (s .loop .inv .7) (rw e at (s .loop .inv .8)))
@@ -150,6 +158,7 @@ correlated-spec =
     μ-loop
     inverse-table-requires
     is-loud-requires
+    is-quiet-requires
     scaled-all-requires
     normalized-requires
     mul-correlation
