@@ -9,6 +9,7 @@ use pitch::Reader;
 use pitch_search::Search;
 use refusal::Refusal;
 use selection::Answer;
+ghost use Prim.Native.Nat.{_≤_};
 
 // What is carried from record to record, beside the lists that `main` lends.
 struct State {
@@ -44,7 +45,7 @@ fn main() {
     flush(&output, state.filled);
 }
 
-fn begun(output: &mut [u8]) -> State {
+fn begun(output: &mut [u8; 65536]) -> State {
     let filled = put_text(output, 0, b"mr74 select\n");
     State {
         searcher: Search::fresh(),
@@ -64,7 +65,7 @@ fn block(
     history: &mut [i16; 143],
     words: &mut [i16; 160],
     input: &mut [u8],
-    output: &mut [u8],
+    output: &mut [u8; 65536],
 ) -> State {
     let kept = moved(input, state.at, state.have);
     if input.len() <= kept {
@@ -123,7 +124,7 @@ fn run(
     history: &mut [i16; 143],
     words: &mut [i16; 160],
     input: &[u8],
-    output: &mut [u8],
+    output: &mut [u8; 65536],
 ) -> State {
     let have = state.have;
     if input.len() < have {
@@ -171,7 +172,7 @@ fn record(
     words: &mut [i16; 160],
     feed: &[u8],
     end: usize,
-    output: &mut [u8],
+    output: &mut [u8; 65536],
 ) -> State {
     let step = selection::step_lent(state.searcher, state.reader, history, words, feed, state.at);
     let searcher = step.searcher;
@@ -203,7 +204,12 @@ fn goes_on(answer: Answer) -> bool {
 
 // ---- Lines, into the output block.
 
-fn put_answer(output: &mut [u8], filled: usize, answer: Answer, words: &[i16; 160]) -> usize {
+fn put_answer(
+    output: &mut [u8; 65536],
+    filled: usize,
+    answer: Answer,
+    words: &[i16; 160],
+) -> usize {
     match answer {
         Answer::End => filled,
         Answer::Reset => put_text(output, filled, b" reset"),
@@ -237,28 +243,28 @@ fn put_answer(output: &mut [u8], filled: usize, answer: Answer, words: &[i16; 16
     }
 }
 
-fn put_lag(output: &mut [u8], filled: usize, lag: PitchLag, hertz: u16) -> usize {
+fn put_lag(output: &mut [u8; 65536], filled: usize, lag: PitchLag, hertz: u16) -> usize {
     let samples = put_number(output, filled, lag.samples as u64);
     let fraction = lag.fraction;
     let thirds = put_word(output, samples, fraction.thirds());
     put_number(output, thirds, hertz as u64)
 }
 
-fn put_gain(output: &mut [u8], filled: usize, gain: QuantizedGain) -> usize {
+fn put_gain(output: &mut [u8; 65536], filled: usize, gain: QuantizedGain) -> usize {
     let index = put_number(output, filled, gain.index as u64);
     let row = gain.row;
     let pitch = put_word(output, index, row.pitch_q14);
     put_word(output, pitch, row.correction_q12)
 }
 
-fn put_refused(output: &mut [u8], filled: usize, refusal: Refusal) -> usize {
+fn put_refused(output: &mut [u8; 65536], filled: usize, refusal: Refusal) -> usize {
     let named = put_text(output, filled, b" refused");
     let number = put_number(output, named, refusal.number() as u64);
     let detail = refusal.detail();
     put_signed(output, number, detail.negative, detail.magnitude)
 }
 
-fn put_words(output: &mut [u8], filled: usize, words: &[i16; 160]) -> usize {
+fn put_words(output: &mut [u8; 65536], filled: usize, words: &[i16; 160]) -> usize {
     let mut next = filled;
     for i in 0..160 {
         next = put_word(output, next, words[i]);
@@ -266,7 +272,7 @@ fn put_words(output: &mut [u8], filled: usize, words: &[i16; 160]) -> usize {
     next
 }
 
-fn put_word(output: &mut [u8], filled: usize, word: i16) -> usize {
+fn put_word(output: &mut [u8; 65536], filled: usize, word: i16) -> usize {
     put_signed(
         output,
         filled,
@@ -275,12 +281,12 @@ fn put_word(output: &mut [u8], filled: usize, word: i16) -> usize {
     )
 }
 
-fn put_number(output: &mut [u8], filled: usize, n: u64) -> usize {
+fn put_number(output: &mut [u8; 65536], filled: usize, n: u64) -> usize {
     put_signed(output, filled, false, n)
 }
 
 // A space and the number.
-fn put_signed(output: &mut [u8], filled: usize, negative: bool, magnitude: u64) -> usize {
+fn put_signed(output: &mut [u8; 65536], filled: usize, negative: bool, magnitude: u64) -> usize {
     let spaced = put(output, filled, b' ');
     if negative {
         let signed = put(output, spaced, b'-');
@@ -289,13 +295,75 @@ fn put_signed(output: &mut [u8], filled: usize, negative: bool, magnitude: u64) 
     put_decimal(output, spaced, magnitude)
 }
 
-fn put_decimal(output: &mut [u8], filled: usize, n: u64) -> usize {
+// Five digits at a time.
+fn put_decimal(output: &mut [u8; 65536], filled: usize, n: u64) -> usize {
+    if n < 100000 {
+        return put_small(output, filled, n as u32);
+    }
+    if n < 10000000000 {
+        let upper = put_small(output, filled, (n / 100000) as u32);
+        return put_five(output, upper, (n % 100000) as u32);
+    }
     let mut text = [0u8; 20];
     let digits = io::decimal(n, &mut text);
     put_text(output, filled, &text[..digits])
 }
 
-fn put_text(output: &mut [u8], filled: usize, text: &[u8]) -> usize {
+// A number below 100000.
+fn put_small(output: &mut [u8; 65536], filled: usize, n: u32) -> usize {
+    let at = room(output, filled);
+    if n < 10 {
+        output[at] = digit(n);
+        return at + 1;
+    }
+    if n < 100 {
+        output[at] = digit(n / 10);
+        output[at + 1] = digit(n);
+        return at + 2;
+    }
+    if n < 1000 {
+        output[at] = digit(n / 100);
+        output[at + 1] = digit(n / 10);
+        output[at + 2] = digit(n);
+        return at + 3;
+    }
+    if n < 10000 {
+        output[at] = digit(n / 1000);
+        output[at + 1] = digit(n / 100);
+        output[at + 2] = digit(n / 10);
+        output[at + 3] = digit(n);
+        return at + 4;
+    }
+    put_five(output, at, n)
+}
+
+// Five digits, zeros in front.
+fn put_five(output: &mut [u8; 65536], filled: usize, n: u32) -> usize {
+    let at = room(output, filled);
+    output[at] = digit(n / 10000);
+    output[at + 1] = digit(n / 1000);
+    output[at + 2] = digit(n / 100);
+    output[at + 3] = digit(n / 10);
+    output[at + 4] = digit(n);
+    at + 5
+}
+
+fn digit(n: u32) -> u8 {
+    (48 + n % 10) as u8
+}
+
+// A place of the output block with five bytes from it on; where fewer are left, the block is written first.
+fn room(output: &[u8; 65536], filled: usize) -> usize
+    ensures { λ r. ⌜ r ≤ 65531 ⌝ }
+{
+    if 65531 < filled {
+        flush(output, filled);
+        return 0;
+    }
+    filled
+}
+
+fn put_text(output: &mut [u8; 65536], filled: usize, text: &[u8]) -> usize {
     let mut next = filled;
     for i in 0..text.len() {
         next = put(output, next, text[i]);
@@ -304,22 +372,20 @@ fn put_text(output: &mut [u8], filled: usize, text: &[u8]) -> usize {
 }
 
 // A full block is written first.
-fn put(output: &mut [u8], filled: usize, byte: u8) -> usize {
-    if filled < output.len() {
+fn put(output: &mut [u8; 65536], filled: usize, byte: u8) -> usize {
+    if filled < 65536 {
         output[filled] = byte;
         return filled + 1;
     }
     flush(output, filled);
-    if output.len() == 0 {
-        return 0;
-    }
     output[0] = byte;
     1
 }
 
-fn flush(output: &[u8], filled: usize) {
-    if output.len() < filled {
+fn flush(output: &[u8; 65536], filled: usize) {
+    let block: &[u8] = output;
+    if block.len() < filled {
         return;
     }
-    io::write_all(STDOUT_FILENO, &output[..filled]);
+    io::write_all(STDOUT_FILENO, &block[..filled]);
 }

@@ -26,11 +26,8 @@ run-requires c κs = search needs
 
 same-length-2 : tie.Need-same-length-2
 same-length-2 c =
-    let r = c .before .before .before .before .before .before .before .before .before in
+    let r = c .before .before .before .before .before .before .before in
     r .input2 .given ∙ r .before .before .before .before .before .input .given
-
-same-length-3 : tie.Need-same-length-3
-same-length-3 c = search needs
 
 returns-2 : tie.Need-returns-2
 returns-2 c = search needs
@@ -47,5 +44,4 @@ block-spec =
     loaded-requires
     run-requires
     same-length-2
-    same-length-3
     returns-2)

@@ -1,6 +1,6 @@
 use borrow.Author.Needs.{needs}
-use lib.ListN.{length-take}
 use native.Mathlib.Omega.{arith}
+use lib.ListN.{length-take}
 use Rattle.select.proofs.flush.Statement.{statement}
 use Rattle.select.proofs.flush.Tie as tie
 

@@ -5,7 +5,7 @@ use Rattle.select.proofs.main.Statement.{statement}
 use Rattle.select.proofs.main.Tie as tie
 
 abbrev Inv-loop : tie.InvT-loop
-Inv-loop input₀ output₀ history₀ words₀ state₀ turns₀ input output history words state turns = (length input ≡ 65536) × (length output ≡ 65536)
+Inv-loop input₀ output₀ history₀ words₀ state₀ turns₀ input output history words state turns = length input ≡ 65536
 
 abbrev μ-loop : tie.MeasureT-loop
 μ-loop input₀ output₀ history₀ words₀ state₀ turns₀ input output history words state turns = turns
@@ -19,9 +19,6 @@ large-buffer-requires-2 c κs = search needs
 fresh-requires : tie.Need-fresh-requires Inv-loop μ-loop
 fresh-requires c κs = search needs
 
-slice-aggregate-begun : tie.Need-slice-aggregate-begun Inv-loop μ-loop
-slice-aggregate-begun c = search needs
-
 begun-requires : tie.Need-begun-requires Inv-loop μ-loop
 begun-requires c κs = search needs
 
@@ -30,9 +27,6 @@ loop-holds c = search needs
 
 slice-aggregate-block : tie.Need-slice-aggregate-block Inv-loop μ-loop
 slice-aggregate-block c = search needs
-
-slice-aggregate-block-2 : tie.Need-slice-aggregate-block-2 Inv-loop μ-loop
-slice-aggregate-block-2 c = search needs
 
 block-requires : tie.Need-block-requires Inv-loop μ-loop
 block-requires c κs = search needs
@@ -45,9 +39,6 @@ loop-less c = search needs
 
 loop-again : tie.Need-loop-again Inv-loop μ-loop
 loop-again c = search needs
-
-slice-aggregate-flush : tie.Need-slice-aggregate-flush Inv-loop μ-loop
-slice-aggregate-flush c = search needs
 
 flush-requires : tie.Need-flush-requires Inv-loop μ-loop
 flush-requires c κs = search needs
@@ -64,15 +55,12 @@ main-spec =
     large-buffer-requires
     large-buffer-requires-2
     fresh-requires
-    slice-aggregate-begun
     begun-requires
     loop-holds
     slice-aggregate-block
-    slice-aggregate-block-2
     block-requires
     sub-turns
     loop-less
     loop-again
-    slice-aggregate-flush
     flush-requires
     returns)

@@ -6,7 +6,7 @@ use Rattle.select.proofs.put_text.Statement.{statement}
 use Rattle.select.proofs.put_text.Tie as tie
 
 abbrev Inv-loop : tie.InvT-loop
-Inv-loop output₀ filled text next₀ i₀ i-end output next i = (i-end ≡ length text) × (length output ≡ length output₀)
+Inv-loop output₀ filled text next₀ i₀ i-end output next i = i-end ≡ length text
 
 abbrev μ-loop : tie.MeasureT-loop
 μ-loop output₀ filled text next₀ i₀ i-end output next i = i-end - i
@@ -29,9 +29,6 @@ loop-less c = search needs
 loop-again : tie.Need-loop-again Inv-loop μ-loop
 loop-again c = search needs
 
-same-length : tie.Need-same-length Inv-loop μ-loop
-same-length c = search needs
-
 returns : tie.Need-returns Inv-loop μ-loop
 returns c = search needs
 
@@ -47,5 +44,4 @@ put-text-spec =
     add-i
     loop-less
     loop-again
-    same-length
     returns)

