@@ -1,18 +1,76 @@
 // The correlations of the open-loop lag, TS 26.073 comp_corr, from pitch/open_loop.rs.
+ghost use mathlib.Core.Bool.{true};
 ghost use mathlib.Core.Path.{_≡_};
 ghost use Prim.Native.Nat.{_+_, _≤_};
-ghost use Rattle.open_loop_correlation.specs.Correlations.{correlation, by-lag};
+ghost use lib.IntN.{pos};
+ghost use lib.Signed.{ltZ};
+ghost use Rattle.open_loop_correlation.specs.Correlations.{products, correlation, by-lag};
 
 const HALF_FRAME_SAMPLES: usize = 80;
 
 const HISTORY_SAMPLES: usize = 143;
 
+const INPUT_SAMPLES: usize = 223;
+
 const MINIMUM_LAG: usize = 20;
 
 const LAGS: usize = 144;
 
-// By the lag: places 20 to 143, four at a time.
+// By the lag: places 20 to 143. An energy of all words that is not clipped proves that no sum is.
 pub fn correlations(words: &[i16; 223]) -> [i32; 144]
+    ensures { λ r. ⌜ r ≡ by-lag (now (words .entry)) ⌝ }
+{
+    if energy(words) < 2147483647 {
+        return plain_table(words);
+    }
+    clipped_table(words)
+}
+
+// Of all words. Terms are not negative, so the sum is clipped once.
+fn energy(words: &[i16; 223]) -> i32
+    ensures { λ r. ⌜ r ≡ products (now (words .entry)) 0 0 223 ⌝ }
+{
+    let mut sum: u64 = 0;
+    for i in 0..INPUT_SAMPLES {
+        let v = words[i];
+        sum = sum + fixed::exact(v, v) as u32 as u64;
+    }
+    if 1073741823 < sum {
+        return 2147483647;
+    }
+    (2 * sum) as i32
+}
+
+// ---- Sums that are not clipped.
+
+fn plain_table(words: &[i16; 223]) -> [i32; 144]
+    requires { ⌜ ltZ (products (now words) 0 0 223) (pos 2147483647) ≡ true ⌝ }
+    ensures { λ r. ⌜ r ≡ by-lag (now (words .entry)) ⌝ }
+{
+    let mut table = [0i32; LAGS];
+    for lag in MINIMUM_LAG..LAGS {
+        table[lag] = plain_at(words, lag);
+    }
+    table
+}
+
+// Half the sum, from which the compiler makes products of eight words at once.
+fn plain_at(words: &[i16; 223], lag: usize) -> i32
+    requires { ⌜ (lag ≤ 143) × (ltZ (products (now words) 0 0 223) (pos 2147483647) ≡ true) ⌝ }
+    ensures { λ r. ⌜ r ≡ correlation (now (words .entry)) lag ⌝ }
+{
+    let from = HISTORY_SAMPLES - lag;
+    let mut sum: i32 = 0;
+    for i in 0..HALF_FRAME_SAMPLES {
+        sum = sum + fixed::exact(words[HISTORY_SAMPLES + i], words[from + i]);
+    }
+    2 * sum
+}
+
+// ---- Sums that may be clipped.
+
+// Four lags at a time.
+fn clipped_table(words: &[i16; 223]) -> [i32; 144]
     ensures { λ r. ⌜ r ≡ by-lag (now (words .entry)) ⌝ }
 {
     let mut table = [0i32; LAGS];

@@ -50,15 +50,20 @@ fn scaled(v: i16, energy: i32) -> i16
     v
 }
 
+// Terms are not negative, so the sum is clipped once.
 fn energy(words: &[i16; 223], from: usize, count: usize) -> i32
     requires { ⌜ from + count ≤ 223 ⌝ }
     ensures { λ r. ⌜ r ≡ products (now (words .entry)) from from count ⌝ }
 {
-    let mut sum: i32 = 0;
+    let mut sum: u64 = 0;
     for i in 0..count {
-        sum = fixed::mac(sum, words[from + i], words[from + i]);
+        let v = words[from + i];
+        sum = sum + fixed::exact(v, v) as u32 as u64;
     }
-    sum
+    if 1073741823 < sum {
+        return 2147483647;
+    }
+    (2 * sum) as i32
 }
 
 fn of_sections(words: &[i16; 223], table: &[i32; 144]) -> usize

@@ -1,46 +1,67 @@
-use Rattle.open_loop_correlation.proofs.Lags.{products-more}
-use mathlib.Core.Path.{_≡_, refl}
-use Prim.Native.Nat.{_≤_, _-_, _+_}
-use mir.Syntax.{w16, w32}
-use mir.Val.{toZ}
-use Rattle.fixed.specs.Lists.{L-sum}
-use Rattle.fixed.proofs.Bounds.{got}
-use Rattle.open_loop_correlation.specs.Correlations.{products}
-use borrow.Author.Needs.{needs}
+use mathlib.Core.Path.{_≡_, refl, sym, ap, _∙_}
+use Prim.Native.Nat.{_≤_, _<_, _-_, _+_, _*_, _^_}
 use native.Mathlib.Omega.{arith}
+use native.Mathlib.Numerals.{add-one}
+use borrow.Author.Needs.{needs}
+use lib.IntN.{pos, natAbs}
+use mir.Facts.{toZ-pos}
+use mir.Syntax.{w16, w32}
+use mir.Val.{toZ, ofZ}
+use Rattle.fixed.proofs.Bounds.{got, ok}
+use Rattle.fixed.proofs.Sums.{square-is, square-le}
+use Rattle.fixed.proofs.Quiet.{squared}
+use Rattle.open_loop_correlation.proofs.Energies.{from, energy-at}
 use Rattle.open_loop_sections.proofs.energy.Statement.{statement}
 use Rattle.open_loop_sections.proofs.energy.Tie as tie
 
 abbrev Inv-loop : tie.InvT-loop
-Inv-loop words from count sum₀ i₀ sum i = (from + count ≤ 223) × (i ≤ count) × (toZ w32 sum ≡ products words from from i)
+Inv-loop words first count sum₀ i₀ sum i = (first + count ≤ 223) × (i ≤ count) × (sum ≡ squared (from words first) i) × (sum ≤ i * 2 ^ 30)
 
 abbrev μ-loop : tie.MeasureT-loop
-μ-loop words from count sum₀ i₀ sum i = count - i
+μ-loop words first count sum₀ i₀ sum i = count - i
 
 loop-holds : tie.Need-loop-holds Inv-loop μ-loop
-unfolding products L-sum
-loop-holds c = (c .pre, omega arith, refl)
+unfolding squared
+loop-holds c = (c .pre, omega arith, refl, omega arith)
 
-add-mac : tie.Need-add-mac Inv-loop μ-loop
-add-mac c = search needs
+add-v : tie.Need-add-v Inv-loop μ-loop
+add-v c = search needs
 
-mul-mac : tie.Need-mul-mac Inv-loop μ-loop
-mul-mac c = search needs
+mul-v : tie.Need-mul-v Inv-loop μ-loop
+mul-v c = search needs
 
-element-copy-out-mac : tie.Need-element-copy-out-mac Inv-loop μ-loop
-element-copy-out-mac c = search needs
+element-copy-out-v : tie.Need-element-copy-out-v Inv-loop μ-loop
+element-copy-out-v c = search needs
 
-add-mac-2 : tie.Need-add-mac-2 Inv-loop μ-loop
-add-mac-2 c = search needs
+exact-requires : tie.Need-exact-requires Inv-loop μ-loop
+exact-requires c κs = tt
 
-mul-mac-2 : tie.Need-mul-mac-2 Inv-loop μ-loop
-mul-mac-2 c = search needs
+-- the square of the word that is taken in
+square : (c : tie.After-exact Inv-loop μ-loop) →
+    let s = c .before .before .before in
+    let a = s .before .args in
+    let v = from (a .words .now) (a .from) (s .loop .i) in
+    (toZ w32 (ofZ w32 (c .exact .result)) ≡ pos (natAbs v * natAbs v)) × (natAbs v * natAbs v ≤ 2 ^ 30)
+square c =
+    let s = c .before .before .before in
+    let a = s .before .args in
+    let v = from (a .words .now) (a .from) (s .loop .i) in
+    (rw (got w32 (c .exact .ok) (c .exact .ensures), got w16 (c .before .v .given) refl) (square-is v), square-le v (ok w16 v (c .before .v .given)))
 
-element-copy-out-mac-2 : tie.Need-element-copy-out-mac-2 Inv-loop μ-loop
-element-copy-out-mac-2 c = search needs
+cast-sum : tie.Need-cast-sum Inv-loop μ-loop
+cast-sum c = let h = square c in rw (h .0) (tt, record { fits = omega arith })
 
-mac-requires : tie.Need-mac-requires Inv-loop μ-loop
-mac-requires c κs = tt
+cast-sum-2 : tie.Need-cast-sum-2 Inv-loop μ-loop
+cast-sum-2 c = let h = square c in rw (h .0) (record { fits = omega arith })
+
+add-sum : tie.Need-add-sum Inv-loop μ-loop
+add-sum c =
+    let s = c .before .before .before in
+    let p = s .loop .inv .0 in
+    let l : s .loop .i < 223 = omega arith in
+    let b = s .loop .inv .3 in
+    let h = square c in
+    rw (h .0) (record { fits = omega arith })
 
 add-i : tie.Need-add-i Inv-loop μ-loop
 add-i c = search needs
@@ -49,21 +70,34 @@ loop-less : tie.Need-loop-less Inv-loop μ-loop
 loop-less c = search needs
 
 loop-again : tie.Need-loop-again Inv-loop μ-loop
+unfolding squared
 loop-again c =
-    let s = c .before .before .before .before in
-    let a = s .before .args in (
-      s .loop .inv .0,
-      omega arith,
-      rw (
-        got w32 (c .mac .ok) (c .mac .ensures),
-        got w16 (c .before .before .mac-arg .given) refl,
-        s .loop .inv .2,
-      )
-          (products-more (a .words .now) (a .from) (a .from) (s .loop .i)),
-    )
+    let s = c .before .before .before in
+    let b = s .loop .inv .3 in
+    let h = square c in
+    rw (h .0) (s .loop .inv .0, omega arith, rw (add-one (s .loop .i), s .loop .inv .2), omega (arith, h .1))
 
 returns : tie.Need-returns Inv-loop μ-loop
-returns c = let e : c .before .loop .i ≡ c .before .before .args .count = omega arith in rw e at (c .before .loop .inv .2)
+returns c =
+    let s = c .before .before in
+    let a = s .before .args in
+    let e : s .loop .i ≡ a .count = omega arith in
+    let q : s .loop .sum ≡ squared (from (a .words .now) (a .from)) (a .count) = rw e at (s .loop .inv .2) in
+    ap pos (omega arith) ∙ sym (energy-at (a .words .now) (a .from) (a .count))
+
+mul-result : tie.Need-mul-result Inv-loop μ-loop
+mul-result c = omega arith
+
+cast-result : tie.Need-cast-result Inv-loop μ-loop
+cast-result c = record { sfits = omega arith }
+
+returns-2 : tie.Need-returns-2 Inv-loop μ-loop
+returns-2 c =
+    let s = c .before .before in
+    let a = s .before .args in
+    let e : s .loop .i ≡ a .count = omega arith in
+    let q : s .loop .sum ≡ squared (from (a .words .now) (a .from)) (a .count) = rw e at (s .loop .inv .2) in
+    toZ-pos w32 {n = 2 * s .loop .sum} (omega arith) ∙ ap pos (omega arith) ∙ sym (energy-at (a .words .now) (a .from) (a .count))
 
 pub energy-spec : {M : Type 1} → statement M
 energy-spec =
@@ -72,14 +106,17 @@ energy-spec =
     Inv-loop
     μ-loop
     loop-holds
-    add-mac
-    mul-mac
-    element-copy-out-mac
-    add-mac-2
-    mul-mac-2
-    element-copy-out-mac-2
-    mac-requires
+    add-v
+    mul-v
+    element-copy-out-v
+    exact-requires
+    cast-sum
+    cast-sum-2
+    add-sum
     add-i
     loop-less
     loop-again
-    returns)
+    returns
+    mul-result
+    cast-result
+    returns-2)
