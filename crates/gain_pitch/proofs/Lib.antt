@@ -1,3 +1,4 @@
 -- The laws that belong to no one function.
 pub mod Ranges
+pub mod Plains
 pub mod Squares

@@ -1,7 +1,11 @@
 // The pitch gain, TS 26.073 G_pitch, from gain/quantization.rs: the gain, and the normalised energy and correlation from which the gain row is chosen.
 use refusal::Refusal;
+ghost use mathlib.Core.Bool.{true, false};
 ghost use mathlib.Core.Path.{_≡_};
-ghost use Rattle.gain_pitch.specs.Gains.{flagged-sum, normalized, energy, correlation, gain, G-pitch, told-gain, pitch-gain};
+ghost use Prim.Native.Nat.{ℕ, _*_, _<_, _≤_};
+ghost use lib.IntN.{natAbs};
+ghost use Rattle.fixed.specs.Lists.{at};
+ghost use Rattle.gain_pitch.specs.Gains.{sum, overflow, flagged-sum, normalized, energy, correlation, gain, G-pitch, told-gain, pitch-gain};
 
 const SUBFRAME_SAMPLES: usize = 40;
 
@@ -86,9 +90,12 @@ fn energy(adaptive: &[i16; 40]) -> ScaledWord
 fn correlation(target: &[i16; 40], adaptive: &[i16; 40]) -> ScaledWord
     ensures { λ r. ⌜ r ≡ correlation (now (target .entry)) (now (adaptive .entry)) ⌝ }
 {
-    let sum = dot(target, adaptive);
+    if are_quiet(target, adaptive) {
+        return normalized(plain(target, adaptive), 0);
+    }
+    let sum = clipped(target, adaptive);
     if sum.overflow {
-        return normalized(dot(target, &fixed::shifted40(adaptive, -2)).value, 2);
+        return normalized(clipped(target, &fixed::shifted40(adaptive, -2)).value, 2);
     }
     normalized(sum.value, 0)
 }
@@ -119,6 +126,18 @@ pub fn square_sum(words: &[i16; 40]) -> fixed::Flagged
 pub fn dot(left: &[i16; 40], right: &[i16; 40]) -> fixed::Flagged
     ensures { λ r. ⌜ r ≡ flagged-sum (now (left .entry)) (now (right .entry)) 40 ⌝ }
 {
+    if are_quiet(left, right) {
+        return fixed::Flagged {
+            value: plain(left, right),
+            overflow: false,
+        };
+    }
+    clipped(left, right)
+}
+
+fn clipped(left: &[i16; 40], right: &[i16; 40]) -> fixed::Flagged
+    ensures { λ r. ⌜ r ≡ flagged-sum (now (left .entry)) (now (right .entry)) 40 ⌝ }
+{
     let mut value: i32 = 1;
     let mut overflow = false;
     for i in 0..40 {
@@ -127,4 +146,39 @@ pub fn dot(left: &[i16; 40], right: &[i16; 40]) -> fixed::Flagged
         overflow = overflow | step.overflow;
     }
     fixed::Flagged { value, overflow }
+}
+
+// ---- The same where no product is so great that a step could be clipped: at most a fortieth of 2 ^ 30.
+
+// The loudest words tell.
+fn are_quiet(left: &[i16; 40], right: &[i16; 40]) -> bool
+    ensures { λ r. ⌜ (r ≡ true → (k : ℕ) → k < 40 → natAbs (at (now (left .entry)) k) * natAbs (at (now (right .entry)) k) ≤ 26843545) ⌝ }
+{
+    loudest(left) as u32 * loudest(right) as u32 <= 26843545
+}
+
+// The greatest magnitude.
+fn loudest(words: &[i16; 40]) -> u16
+    ensures { λ r. ⌜ (r ≤ 32768) × ((k : ℕ) → k < 40 → natAbs (at (now (words .entry)) k) ≤ r) ⌝ }
+{
+    let mut most: u16 = 0;
+    for i in 0..40 {
+        let v = fixed::unsigned_abs(words[i] as i32) as u16;
+        if most < v {
+            most = v;
+        }
+    }
+    most
+}
+
+// Half the sum, from which the compiler makes products of eight words at once.
+fn plain(left: &[i16; 40], right: &[i16; 40]) -> i32
+    requires { ⌜ ((k : ℕ) → k < 40 → natAbs (at (now left) k) * natAbs (at (now right) k) ≤ 26843545) ⌝ }
+    ensures { λ r. ⌜ (r ≡ sum (now (left .entry)) (now (right .entry)) 40) × (overflow (now (left .entry)) (now (right .entry)) 40 ≡ false) ⌝ }
+{
+    let mut half: i32 = 0;
+    for i in 0..40 {
+        half = half + fixed::exact(left[i], right[i]);
+    }
+    2 * half + 1
 }

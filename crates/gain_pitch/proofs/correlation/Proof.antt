@@ -7,27 +7,29 @@ use borrow.Author.Needs.{needs}
 use Rattle.gain_pitch.proofs.correlation.Statement.{statement}
 use Rattle.gain_pitch.proofs.correlation.Tie as tie
 
-dot-requires : tie.Need-dot-requires
-dot-requires c κs = search needs
+are-quiet-requires : tie.Need-are-quiet-requires
+are-quiet-requires c κs = search needs
 
-shifted40-requires : tie.Need-shifted40-requires
-shifted40-requires c κs = search needs
-
-dot-requires-2 : tie.Need-dot-requires-2
-dot-requires-2 c κs = search needs
+plain-requires : tie.Need-plain-requires
+plain-requires c κs = c .before .are-quiet .ensures (c .if1 .taken)
 
 normalized-requires : tie.Need-normalized-requires
 normalized-requires c κs = search needs
 
 returns : tie.Need-returns
-unfolding scalar-product flagged-sum
+unfolding scalar-product
 returns c =
-    let d2 = c .before .before in
-    let h = d2 .before .before in
-    let i = h .before in
-    let d = i .before in
-    let o = sym (ap (λ (f : Flagged). f .overflow) (d .dot .ensures)) ∙ i .if1 .taken in
-    rw (o, c .normalized .ensures, got w32 (c .before .struct-told .given .0 .1) (ap (λ (f : Flagged). f .value) (d2 .dot2 .ensures)), h .shifted40 .ensures)
+    let p = c .before in
+    rw (p .plain .ensures .1, c .normalized .ensures, got w32 (p .plain .ok) (p .plain .ensures .0))
+
+clipped-requires : tie.Need-clipped-requires
+clipped-requires c κs = search needs
+
+shifted40-requires : tie.Need-shifted40-requires
+shifted40-requires c κs = search needs
+
+clipped-requires-2 : tie.Need-clipped-requires-2
+clipped-requires-2 c κs = search needs
 
 normalized-requires-2 : tie.Need-normalized-requires-2
 normalized-requires-2 c κs = search needs
@@ -35,19 +37,36 @@ normalized-requires-2 c κs = search needs
 returns-2 : tie.Need-returns-2
 unfolding scalar-product flagged-sum
 returns-2 c =
+    let d2 = c .before .before in
+    let h = d2 .before .before in
+    let i = h .before in
+    let d = i .before in
+    let o = sym (ap (λ (f : Flagged). f .overflow) (d .clipped .ensures)) ∙ i .if2 .taken in
+    rw (o, c .normalized2 .ensures, got w32 (c .before .struct-told .given .0 .1) (ap (λ (f : Flagged). f .value) (d2 .clipped2 .ensures)), h .shifted40 .ensures)
+
+normalized-requires-3 : tie.Need-normalized-requires-3
+normalized-requires-3 c κs = search needs
+
+returns-3 : tie.Need-returns-3
+unfolding scalar-product flagged-sum
+returns-3 c =
     let i = c .before .before in
     let d = i .before in
-    let o = sym (ap (λ (f : Flagged). f .overflow) (d .dot .ensures)) ∙ i .if1 .left in
-    rw (o, c .normalized2 .ensures, got w32 (c .before .struct-told2 .given .0 .1) (ap (λ (f : Flagged). f .value) (d .dot .ensures)))
+    let o = sym (ap (λ (f : Flagged). f .overflow) (d .clipped .ensures)) ∙ i .if2 .left in
+    rw (o, c .normalized3 .ensures, got w32 (c .before .struct-told2 .given .0 .1) (ap (λ (f : Flagged). f .value) (d .clipped .ensures)))
 
 pub correlation-spec : {M : Type 1} → statement M
 correlation-spec =
     tie.close
     (tie.spec
-    dot-requires
-    shifted40-requires
-    dot-requires-2
+    are-quiet-requires
+    plain-requires
     normalized-requires
     returns
+    clipped-requires
+    shifted40-requires
+    clipped-requires-2
     normalized-requires-2
-    returns-2)
+    returns-2
+    normalized-requires-3
+    returns-3)
