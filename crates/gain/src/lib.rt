@@ -6,14 +6,16 @@ use refusal::Refusal;
 ghost use mathlib.Core.Path.{_≡_};
 ghost use mathlib.Core.Bool.{cond};
 ghost use mathlib.Core.List.{[], _∷_};
-ghost use Prim.Native.Nat.{_≤_};
+ghost use Prim.Native.Nat.{ℕ, _<_, _≤_};
+ghost use lib.IntN.{pos, natAbs};
 ghost use lib.Signed.{ltZ, leZ};
-ghost use Rattle.fixed.specs.Lists.{at};
+ghost use Rattle.fixed.specs.Operators.{mult, Mpy-32-16};
+ghost use Rattle.fixed.specs.Lists.{at, tabulate, L-sum};
 ghost use Rattle.gain_pitch.specs.Gains.{sum};
 ghost use Rattle.gain_table.specs.Rows.{pitch, pitches, corrections};
 ghost use Rattle.gain.specs.Limits.{limit-number, gp-limit, told-limit, limit-choice};
 ghost use Rattle.gain.specs.Energies.{cut, negated, raised, yy-coefficient, xy-coefficient, levelled, on-one-scale, coefficients};
-ghost use Rattle.gain.specs.Rows.{gcode0, term, distance, distances, nearest, Qua-gain, told-row, limited, quantize};
+ghost use Rattle.gain.specs.Rows.{gcode0, term, distances, nearest, Qua-gain, told-row, limited, quantize};
 
 const SUBFRAME_SAMPLES: usize = 40;
 
@@ -307,32 +309,77 @@ fn distances(
     requires { ⌜ (now «pitches_q14» ≡ pitches) × (now «corrections_q12» ≡ corrections) ⌝ }
     ensures { λ r. ⌜ r ≡ distances (now (weights .entry)) gcode0 ⌝ }
 {
+    let base = [gcode0; ROWS];
+    let codes = fractions(corrections_q12, &base);
+    let pitch_squares = fractions(pitches_q14, pitches_q14);
+    let code_squares = fractions(&codes, &codes);
+    let both = fractions(&codes, pitches_q14);
     let mut far = [0i32; ROWS];
     for i in 0..ROWS {
         far[i] = distance(
             weights,
+            pitch_squares[i],
             pitches_q14[i],
-            fixed::fractional(corrections_q12[i], gcode0),
+            code_squares[i],
+            codes[i],
+            both[i],
         );
     }
     far
 }
 
-// Five terms, clipped after every addition.
-fn distance(weights: &[i32; 5], pitch: i16, code: i16) -> i32
-    ensures { λ r. ⌜ r ≡ distance (now (weights .entry)) pitch code ⌝ }
+// Q15 products, row by row. No word on the left is -32768, so nothing is clipped. Laid down as words, they keep the compiler at products of words.
+fn fractions(left: &[i16; 128], right: &[i16; 128]) -> [i16; 128]
+    requires { ⌜ ((k : ℕ) → k < 128 → natAbs (at (now left) k) ≤ 32767) ⌝ }
+    ensures { λ r. ⌜ (r ≡ tabulate (λ k. mult (at (now (left .entry)) k) (at (now (right .entry)) k)) 128) × ((k : ℕ) → k < 128 → natAbs (at r k) ≤ 32767) ⌝ }
 {
-    let one = term(0, weights[0], fixed::fractional(pitch, pitch));
+    let mut products = [0i16; ROWS];
+    for i in 0..ROWS {
+        products[i] = fraction(left[i], right[i]);
+    }
+    products
+}
+
+fn fraction(a: i16, b: i16) -> i16
+    requires { ⌜ natAbs a ≤ 32767 ⌝ }
+    ensures { λ r. ⌜ (r ≡ mult a b) × (natAbs r ≤ 32767) ⌝ }
+{
+    (fixed::exact(a, b) >> 15) as i16
+}
+
+// Five terms, clipped after every addition.
+fn distance(
+    weights: &[i32; 5],
+    pitch_square: i16,
+    pitch: i16,
+    code_square: i16,
+    code: i16,
+    both: i16,
+) -> i32
+    requires { ⌜ (natAbs «pitch_square» ≤ 32767) × (natAbs pitch ≤ 32767) × (natAbs «code_square» ≤ 32767) × (natAbs code ≤ 32767) × (natAbs both ≤ 32767) ⌝ }
+    ensures { λ r. ⌜ r ≡ L-sum (pos 0) (λ k. Mpy-32-16 (at (now (weights .entry)) k) (at («pitch_square» ∷ pitch ∷ «code_square» ∷ code ∷ both ∷ []) k)) 5 ⌝ }
+{
+    let one = term(0, weights[0], pitch_square);
     let two = term(one, weights[1], pitch);
-    let three = term(two, weights[2], fixed::fractional(code, code));
+    let three = term(two, weights[2], code_square);
     let four = term(three, weights[3], code);
-    term(four, weights[4], fixed::fractional(code, pitch))
+    term(four, weights[4], both)
 }
 
 fn term(sum: i32, weight: i32, product: i16) -> i32
+    requires { ⌜ natAbs product ≤ 32767 ⌝ }
     ensures { λ r. ⌜ r ≡ term sum weight product ⌝ }
 {
-    fixed::add32(sum, fixed::multiply_word(weight, product))
+    fixed::add32(sum, weighted(weight, product))
+}
+
+// The product by a word that is not -32768: nothing is clipped, so the two halves' products are added first and doubled once.
+fn weighted(weight: i32, product: i16) -> i32
+    requires { ⌜ natAbs product ≤ 32767 ⌝ }
+    ensures { λ r. ⌜ r ≡ Mpy-32-16 weight product ⌝ }
+{
+    let halves = fixed::split(weight);
+    2 * (fixed::exact(halves.high, product) + (fixed::exact(halves.low, product) >> 15))
 }
 
 // The lowest of the rows within the limit that are nearest; row 0 is within every limit.

@@ -3,13 +3,13 @@ use mathlib.Core.Path.{_≡_, refl}
 use mathlib.Core.Bool.{Bool, true, false, cond}
 use mathlib.Core.List.{List, []}
 use Prim.Native.Nat.{ℕ, _<_, _≤_}
-use lib.Dec.{T, ltb}
-use lib.IntN.{ℤ, pos}
+use lib.Dec.{T, leb, ltb, leb→le}
+use lib.IntN.{ℤ, pos, natAbs}
 use lib.ListN.{getD, List·getD-eq-default}
 use lib.Signed.{leZ}
 use Rattle.fixed.specs.Lists.{at}
 use Rattle.fixed.proofs.Tables.{both, both-left, both-right, at as tested-at}
-use Rattle.gain_table.specs.Rows.{table, Ruled}
+use Rattle.gain_table.specs.Rows.{table, pitch, correction, Ruled}
 
 same : Bool → Bool → Bool
 same true b = b
@@ -44,6 +44,22 @@ rule i h =
       correction-from = true-is _ (both-left (leZ (pos 662) (at row 1)) _ rest);
       correction-to = true-is _ (both-right (leZ (pos 662) (at row 1)) _ rest);
     }
+
+-- no pitch and no correction is -32768
+small : ℕ → List ℤ → Bool
+small i row = both (leb (natAbs (at row 0)) 32767) (leb (natAbs (at row 1)) 32767)
+
+all-small : (i : ℕ) → i < 128 → T (small i (getD table i []))
+unfolding small table
+all-small i h = tested-at [] small table tt i h
+
+pub pitch-small : (i : ℕ) → i < 128 → natAbs (pitch i) ≤ 32767
+unfolding small
+pitch-small i h = leb→le (natAbs (pitch i)) 32767 (both-left (leb (natAbs (pitch i)) 32767) _ (all-small i h))
+
+pub correction-small : (i : ℕ) → i < 128 → natAbs (correction i) ≤ 32767
+unfolding small
+correction-small i h = leb→le (natAbs (correction i)) 32767 (both-right (leb (natAbs (pitch i)) 32767) _ (all-small i h))
 
 -- past the last row there is none
 pub past-end : (i : ℕ) → 128 ≤ i → getD table i [] ≡ []

@@ -1,18 +1,15 @@
 use mathlib.Core.Path.{refl}
-use mir.Syntax.{w16, w32}
+use mir.Syntax.{w32}
 use mir.Facts.{toZ-ofZ}
 use Rattle.fixed.specs.Lists.{L-sum}
 use Rattle.fixed.proofs.Bounds.{got}
-use Rattle.gain.specs.Rows.{products, term, distance}
+use Rattle.gain.specs.Rows.{term}
 use borrow.Author.Needs.{needs}
 use Rattle.gain.proofs.distance.Statement.{statement}
 use Rattle.gain.proofs.distance.Tie as tie
 
 element-copy-out-term : tie.Need-element-copy-out-term
 element-copy-out-term c = search needs
-
-fractional-requires : tie.Need-fractional-requires
-fractional-requires c κs = search needs
 
 term-requires : tie.Need-term-requires
 term-requires c κs = search needs
@@ -26,9 +23,6 @@ term-requires-2 c κs = search needs
 element-copy-out-term-3 : tie.Need-element-copy-out-term-3
 element-copy-out-term-3 c = search needs
 
-fractional-requires-2 : tie.Need-fractional-requires-2
-fractional-requires-2 c κs = search needs
-
 term-requires-3 : tie.Need-term-requires-3
 term-requires-3 c κs = search needs
 
@@ -41,27 +35,21 @@ term-requires-4 c κs = search needs
 element-copy-out-term-5 : tie.Need-element-copy-out-term-5
 element-copy-out-term-5 c = search needs
 
-fractional-requires-3 : tie.Need-fractional-requires-3
-fractional-requires-3 c κs = search needs
-
 term-requires-5 : tie.Need-term-requires-5
 term-requires-5 c κs = search needs
 
 returns : tie.Need-returns
-unfolding distance products L-sum term
+unfolding L-sum term
 returns c =
-    let f3 = c .before in
-    let a5 = f3 .before in
+    let a5 = c .before in
     let t4 = a5 .before in
     let a4 = t4 .before in
     let t3 = a4 .before in
-    let f2 = t3 .before in
-    let a3 = f2 .before in
+    let a3 = t3 .before in
     let t2 = a3 .before in
     let a2 = t2 .before in
     let t1 = a2 .before in
-    let f1 = t1 .before in
-    let a1 = f1 .before in
+    let a1 = t1 .before in
     let b = a1 .before in
     rw (
       got w32 (c .term5 .ok) (c .term5 .ensures),
@@ -70,15 +58,15 @@ returns c =
       got w32 (t2 .term2 .ok) (t2 .term2 .ensures),
       got w32 (t1 .term .ok) (t1 .term .ensures),
       got w32 (a1 .term-arg .given) refl,
-      got w16 (f1 .fractional .ok) (f1 .fractional .ensures),
       got w32 (a2 .term-arg2 .given) refl,
       got w32 (a3 .term-arg3 .given) refl,
-      got w16 (f2 .fractional2 .ok) (f2 .fractional2 .ensures),
       got w32 (a4 .term-arg4 .given) refl,
       got w32 (a5 .term-arg5 .given) refl,
-      got w16 (f3 .fractional3 .ok) (f3 .fractional3 .ensures),
+      toZ-ofZ (b .fits .pitch-square),
       toZ-ofZ (b .fits .pitch),
+      toZ-ofZ (b .fits .code-square),
       toZ-ofZ (b .fits .code),
+      toZ-ofZ (b .fits .both),
     )
 
 pub distance-spec : {M : Type 1} → statement M
@@ -86,16 +74,13 @@ distance-spec =
     tie.close
     (tie.spec
     element-copy-out-term
-    fractional-requires
     term-requires
     element-copy-out-term-2
     term-requires-2
     element-copy-out-term-3
-    fractional-requires-2
     term-requires-3
     element-copy-out-term-4
     term-requires-4
     element-copy-out-term-5
-    fractional-requires-3
     term-requires-5
     returns)

@@ -6,8 +6,8 @@ use borrow.Author.Needs.{needs}
 use Rattle.gain.proofs.term.Statement.{statement}
 use Rattle.gain.proofs.term.Tie as tie
 
-multiply-word-requires : tie.Need-multiply-word-requires
-multiply-word-requires c κs = search needs
+weighted-requires : tie.Need-weighted-requires
+weighted-requires c κs = search needs
 
 add32-requires : tie.Need-add32-requires
 add32-requires c κs = search needs
@@ -16,7 +16,7 @@ returns : tie.Need-returns
 unfolding term
 returns c =
     let b = c .before .before in
-    simp (toZ-ofZ (b .fits .sum), toZ-ofZ (b .fits .weight), toZ-ofZ (b .fits .product), got w32 (c .add32 .ok) (c .add32 .ensures), got w32 (c .before .multiply-word .ok) (c .before .multiply-word .ensures))
+    simp (toZ-ofZ (b .fits .sum), toZ-ofZ (b .fits .weight), toZ-ofZ (b .fits .product), got w32 (c .add32 .ok) (c .add32 .ensures), got w32 (c .before .weighted .ok) (c .before .weighted .ensures))
 
 pub term-spec : {M : Type 1} → statement M
-term-spec = tie.close (tie.spec multiply-word-requires add32-requires returns)
+term-spec = tie.close (tie.spec weighted-requires add32-requires returns)
