@@ -1,2 +1,8 @@
 -- The laws that belong to no one function.
 pub mod Choosing
+pub mod Units
+pub mod Energies
+pub mod Comparing
+pub mod Tracks
+pub mod Starting
+pub mod Turning

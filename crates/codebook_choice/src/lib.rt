@@ -1,16 +1,20 @@
 // The choice of four pulses, TS 26.073 search_4i40, from codebook/search.rs.
 ghost use mathlib.Core.Path.{_≡_};
-ghost use Prim.Native.Nat.{_<_};
+ghost use mathlib.Core.Bool.{cond};
+ghost use mathlib.Core.List.{[]};
+ghost use Prim.Native.Nat.{ℕ, _+_, _*_, _/_, _<_};
+ghost use lib.IntN.{pos};
+ghost use lib.ListN.{getD};
+ghost use lib.Signed.{mag};
+ghost use Rattle.fixed.specs.Operators.{add, mult, round, L-mult, L-mac, L-deposit-h};
+ghost use Rattle.fixed.specs.Lists.{at, tabulate};
+ghost use Rattle.codebook_target.specs.Starts.{may-start};
 ghost use Rattle.codebook_matrix.specs.Matrices.{cell};
-ghost use Rattle.codebook_choice.specs.Choices.{step-to, exceeds, better, none-in, second-at, third-at, fourth-at, best-step, kept, trial-from, started, turn, turns, search-4i40};
+ghost use Rattle.codebook_choice.specs.Choices.{step-to, exceeds, better, none-in, second-at, third-at, fourth-at, best-step, kept, last-step, turn, turns, search-4i40};
 
 const TRACKS: usize = 5;
 
 const POSITIONS_PER_TRACK: usize = 8;
-
-const HALF_Q15: i16 = 16384;
-
-const QUARTER_Q15: i16 = 8192;
 
 const EIGHTH_Q15: i16 = 4096;
 
@@ -71,6 +75,7 @@ fn turns(
     turn(from_2, correlation, table, left, 1, 2, last, 0)
 }
 
+// The starts of a turn go side by side, a pulse at a time: no choice waits for that of another start.
 fn turn(
     held: Trial,
     correlation: &[i16; 40],
@@ -84,11 +89,57 @@ fn turn(
     requires { ⌜ (a < 5) × (b < 5) × (c < 5) × (d < 5) ⌝ }
     ensures { λ r. ⌜ r ≡ turn (now (correlation .entry)) (now (table .entry)) (now (left .entry)) a b c d held 8 ⌝ }
 {
+    let ones = seconds(correlation, table, left, a, b);
+    let twos = thirds(correlation, table, left, a, ones, c);
     let mut best = held;
     for n in 0..POSITIONS_PER_TRACK {
-        best = started(best, correlation, table, left, a + TRACKS * n, b, c, d);
+        let one = ones[n];
+        let two = twos[n];
+        best = started(best, correlation, table, left, a + TRACKS * n, one, two, d);
     }
     best
+}
+
+// From each start of track a the best place of track b.
+fn seconds(
+    correlation: &[i16; 40],
+    table: &[[i16; 40]; 40],
+    left: &[i16; 40],
+    a: usize,
+    b: usize,
+) -> [Step; 8]
+    requires { ⌜ (a < 5) × (b < 5) ⌝ }
+    ensures { λ r. ⌜ r ≡ tabulate (λ n. cond (may-start (now (left .entry)) (a + 5 * n)) (best-step (second-at (now (correlation .entry)) (now (table .entry)) (a + 5 * n)) b 8) (none-in b)) 8 ⌝ }
+{
+    let mut steps = [none_in(b); 8];
+    for n in 0..POSITIONS_PER_TRACK {
+        if 0 <= left[a + TRACKS * n] {
+            steps[n] = second(correlation, table, a + TRACKS * n, b);
+        }
+    }
+    steps
+}
+
+// And after it the best place of track c.
+fn thirds(
+    correlation: &[i16; 40],
+    table: &[[i16; 40]; 40],
+    left: &[i16; 40],
+    a: usize,
+    ones: [Step; 8],
+    c: usize,
+) -> [Step; 8]
+    requires { ⌜ (a < 5) × (c < 5) × ((n : ℕ) → n < 8 → getD ones n (record { place = 0; sum = pos 0; square = pos 0; energy = pos 0 }) .place < 40) ⌝ }
+    ensures { λ r. ⌜ r ≡ tabulate (λ n. cond (may-start (now (left .entry)) (a + 5 * n)) (best-step (third-at (now (correlation .entry)) (now (table .entry)) (a + 5 * n) (getD ones n (record { place = 0; sum = pos 0; square = pos 0; energy = pos 0 }))) c 8) (none-in c)) 8 ⌝ }
+{
+    let mut steps = [none_in(c); 8];
+    for n in 0..POSITIONS_PER_TRACK {
+        if 0 <= left[a + TRACKS * n] {
+            let one = ones[n];
+            steps[n] = third(correlation, table, a + TRACKS * n, one, c);
+        }
+    }
+    steps
 }
 
 fn started(
@@ -97,15 +148,15 @@ fn started(
     table: &[[i16; 40]; 40],
     left: &[i16; 40],
     first: usize,
-    b: usize,
-    c: usize,
+    one: Step,
+    two: Step,
     d: usize,
 ) -> Trial
-    requires { ⌜ (first < 40) × (b < 5) × (c < 5) × (d < 5) ⌝ }
-    ensures { λ r. ⌜ r ≡ started (now (correlation .entry)) (now (table .entry)) (now (left .entry)) b c d held first ⌝ }
+    requires { ⌜ (first < 40) × (one .place < 40) × (two .place < 40) × (d < 5) ⌝ }
+    ensures { λ r. ⌜ r ≡ cond (may-start (now (left .entry)) first) (kept held (last-step (now (correlation .entry)) (now (table .entry)) first one two d)) held ⌝ }
 {
     if 0 <= left[first] {
-        return kept(held, tried(correlation, table, first, b, c, d));
+        return kept(held, finished(correlation, table, first, one, two, d));
     }
     held
 }
@@ -119,20 +170,17 @@ fn kept(held: Trial, trial: Trial) -> Trial
     held
 }
 
-// The other three tracks take their best places in turn.
-fn tried(
+fn finished(
     correlation: &[i16; 40],
     table: &[[i16; 40]; 40],
     first: usize,
-    b: usize,
-    c: usize,
+    one: Step,
+    two: Step,
     d: usize,
 ) -> Trial
-    requires { ⌜ (first < 40) × (b < 5) × (c < 5) × (d < 5) ⌝ }
-    ensures { λ r. ⌜ r ≡ trial-from (now (correlation .entry)) (now (table .entry)) first b c d ⌝ }
+    requires { ⌜ (first < 40) × (one .place < 40) × (two .place < 40) × (d < 5) ⌝ }
+    ensures { λ r. ⌜ r ≡ last-step (now (correlation .entry)) (now (table .entry)) first one two d ⌝ }
 {
-    let one = second(correlation, table, first, b);
-    let two = third(correlation, table, first, one, c);
     let three = fourth(correlation, table, first, one.place, two, d);
     Trial {
         first,
@@ -144,18 +192,16 @@ fn tried(
     }
 }
 
+// ---- A pulse more: the eight squares and the eight energies of a track, then the choice among them.
+
 fn second(correlation: &[i16; 40], table: &[[i16; 40]; 40], first: usize, track: usize) -> Step
     requires { ⌜ (first < 40) × (track < 5) ⌝ }
     ensures { λ r. ⌜ r ≡ best-step (second-at (now (correlation .entry)) (now (table .entry)) first) track 8 ⌝ }
 {
-    let mut held = none_in(track);
-    for n in 0..POSITIONS_PER_TRACK {
-        held = better(
-            held,
-            second_at(correlation, table, first, track + TRACKS * n),
-        );
-    }
-    held
+    let sum = correlation[first];
+    let squares = squares(correlation, sum, track);
+    let energies = second_energies(table, first, track);
+    best(correlation, &squares, &energies, sum, track)
 }
 
 fn third(
@@ -168,17 +214,168 @@ fn third(
     requires { ⌜ (first < 40) × (one .place < 40) × (track < 5) ⌝ }
     ensures { λ r. ⌜ r ≡ best-step (third-at (now (correlation .entry)) (now (table .entry)) first one) track 8 ⌝ }
 {
-    let mut held = none_in(track);
-    for n in 0..POSITIONS_PER_TRACK {
-        held = better(
-            held,
-            third_at(correlation, table, first, one, track + TRACKS * n),
-        );
-    }
-    held
+    let squares = squares(correlation, one.sum, track);
+    let energies = third_energies(table, first, one, track);
+    best(correlation, &squares, &energies, one.sum, track)
 }
 
+// An energy up to 9/16, which three pulses of a normalised impulse have at most, leaves the fourth room: nothing is clipped.
 fn fourth(
+    correlation: &[i16; 40],
+    table: &[[i16; 40]; 40],
+    first: usize,
+    second: usize,
+    two: Step,
+    track: usize,
+) -> Step
+    requires { ⌜ (first < 40) × (second < 40) × (two .place < 40) × (track < 5) ⌝ }
+    ensures { λ r. ⌜ r ≡ best-step (fourth-at (now (correlation .entry)) (now (table .entry)) first second two) track 8 ⌝ }
+{
+    if (-18432 <= two.energy) & (two.energy <= 18431) {
+        return plain_fourth(correlation, table, first, second, two, track);
+    }
+    clipped_fourth(correlation, table, first, second, two, track)
+}
+
+fn plain_fourth(
+    correlation: &[i16; 40],
+    table: &[[i16; 40]; 40],
+    first: usize,
+    second: usize,
+    two: Step,
+    track: usize,
+) -> Step
+    requires { ⌜ (first < 40) × (second < 40) × (two .place < 40) × (track < 5) × (mag (two .energy) < 18432) ⌝ }
+    ensures { λ r. ⌜ r ≡ best-step (fourth-at (now (correlation .entry)) (now (table .entry)) first second two) track 8 ⌝ }
+{
+    let squares = squares(correlation, two.sum, track);
+    let energies = fourth_energies(table, first, second, two, track);
+    best(correlation, &squares, &energies, two.sum, track)
+}
+
+fn squares(correlation: &[i16; 40], sum: i16, track: usize) -> [i16; 8]
+    requires { ⌜ track < 5 ⌝ }
+    ensures { λ r. ⌜ r ≡ tabulate (λ n. mult (add sum (at (now (correlation .entry)) (track + 5 * n))) (add sum (at (now (correlation .entry)) (track + 5 * n)))) 8 ⌝ }
+{
+    let mut words = [0i16; 8];
+    for n in 0..POSITIONS_PER_TRACK {
+        let total = fixed::add16(sum, correlation[track + TRACKS * n]);
+        words[n] = fixed::fractional(total, total);
+    }
+    words
+}
+
+fn second_energies(table: &[[i16; 40]; 40], first: usize, track: usize) -> [i16; 8]
+    requires { ⌜ (first < 40) × (track < 5) ⌝ }
+    ensures { λ r. ⌜ r ≡ tabulate (λ n. second-at [] (now (table .entry)) first (track + 5 * n) .energy) 8 ⌝ }
+{
+    let base = cell(table, first, first);
+    let mut words = [0i16; 8];
+    for n in 0..POSITIONS_PER_TRACK {
+        let place = track + TRACKS * n;
+        words[n] = second_energy(base, cell(table, place, place), cell(table, first, place));
+    }
+    words
+}
+
+fn third_energies(table: &[[i16; 40]; 40], first: usize, one: Step, track: usize) -> [i16; 8]
+    requires { ⌜ (first < 40) × (one .place < 40) × (track < 5) ⌝ }
+    ensures { λ r. ⌜ r ≡ tabulate (λ n. third-at [] (now (table .entry)) first one (track + 5 * n) .energy) 8 ⌝ }
+{
+    let second = one.place;
+    let base = one.energy;
+    let mut words = [0i16; 8];
+    for n in 0..POSITIONS_PER_TRACK {
+        let place = track + TRACKS * n;
+        words[n] = third_energy(
+            base,
+            cell(table, place, place),
+            cell(table, second, place),
+            cell(table, first, place),
+        );
+    }
+    words
+}
+
+fn fourth_energies(
+    table: &[[i16; 40]; 40],
+    first: usize,
+    second: usize,
+    two: Step,
+    track: usize,
+) -> [i16; 8]
+    requires { ⌜ (first < 40) × (second < 40) × (two .place < 40) × (track < 5) × (mag (two .energy) < 18432) ⌝ }
+    ensures { λ r. ⌜ r ≡ tabulate (λ n. fourth-at [] (now (table .entry)) first second two (track + 5 * n) .energy) 8 ⌝ }
+{
+    let third = two.place;
+    let base = two.energy;
+    let mut words = [0i16; 8];
+    for n in 0..POSITIONS_PER_TRACK {
+        let place = track + TRACKS * n;
+        words[n] = fourth_energy(
+            base,
+            cell(table, place, place),
+            cell(table, third, place),
+            cell(table, second, place),
+            cell(table, first, place),
+        );
+    }
+    words
+}
+
+// Sums of words by 1/4 and 1/2: nothing is clipped, so one shift and one rounding do.
+fn second_energy(base: i16, own: i16, crossed: i16) -> i16
+    ensures { λ r. ⌜ r ≡ round (L-mac (L-mac (L-mult base (pos 8192)) own (pos 8192)) crossed (pos 16384)) ⌝ }
+{
+    ((base as i32 + own as i32 + 2 * crossed as i32 + 2) >> 2) as i16
+}
+
+fn third_energy(base: i16, own: i16, a: i16, b: i16) -> i16
+    ensures { λ r. ⌜ r ≡ round (L-mac (L-mac (L-mac (L-mult base (pos 8192)) own (pos 2048)) a (pos 4096)) b (pos 4096)) ⌝ }
+{
+    ((4 * base as i32 + own as i32 + 2 * a as i32 + 2 * b as i32 + 8) >> 4) as i16
+}
+
+fn fourth_energy(base: i16, own: i16, a: i16, b: i16, c: i16) -> i16
+    requires { ⌜ mag base < 18432 ⌝ }
+    ensures { λ r. ⌜ r ≡ round (L-mac (L-mac (L-mac (L-mac (L-deposit-h base) own (pos 2048)) a (pos 4096)) b (pos 4096)) c (pos 4096)) ⌝ }
+{
+    ((16 * base as i32 + own as i32 + 2 * a as i32 + 2 * b as i32 + 2 * c as i32 + 8) >> 4) as i16
+}
+
+// The first of the eight that no later one exceeds; none where even the first does not.
+fn best(
+    correlation: &[i16; 40],
+    squares: &[i16; 8],
+    energies: &[i16; 8],
+    sum: i16,
+    track: usize,
+) -> Step
+    requires { ⌜ track < 5 ⌝ }
+    ensures { λ r. ⌜ r ≡ best-step (λ p. record { place = p; sum = add sum (at (now (correlation .entry)) p); square = at (now (squares .entry)) (p / 5); energy = at (now (energies .entry)) (p / 5) }) track 8 ⌝ }
+{
+    let mut found = POSITIONS_PER_TRACK;
+    let mut square: i16 = -1;
+    let mut energy: i16 = 1;
+    for n in 0..POSITIONS_PER_TRACK {
+        if exceeds(squares[n], energies[n], square, energy) {
+            found = n;
+            square = squares[n];
+            energy = energies[n];
+        }
+    }
+    if found == POSITIONS_PER_TRACK {
+        return none_in(track);
+    }
+    Step {
+        place: track + TRACKS * found,
+        sum: fixed::add16(sum, correlation[track + TRACKS * found]),
+        square,
+        energy,
+    }
+}
+
+fn clipped_fourth(
     correlation: &[i16; 40],
     table: &[[i16; 40]; 40],
     first: usize,
@@ -197,37 +394,6 @@ fn fourth(
         );
     }
     held
-}
-
-fn second_at(correlation: &[i16; 40], table: &[[i16; 40]; 40], first: usize, place: usize) -> Step
-    requires { ⌜ (first < 40) × (place < 40) ⌝ }
-    ensures { λ r. ⌜ r ≡ second-at (now (correlation .entry)) (now (table .entry)) first place ⌝ }
-{
-    let base = fixed::product(cell(table, first, first), QUARTER_Q15);
-    let own = fixed::mac(base, cell(table, place, place), QUARTER_Q15);
-    let energy = fixed::mac(own, cell(table, first, place), HALF_Q15);
-    step_to(
-        place,
-        fixed::add16(correlation[first], correlation[place]),
-        energy,
-    )
-}
-
-fn third_at(
-    correlation: &[i16; 40],
-    table: &[[i16; 40]; 40],
-    first: usize,
-    one: Step,
-    place: usize,
-) -> Step
-    requires { ⌜ (first < 40) × (one .place < 40) × (place < 40) ⌝ }
-    ensures { λ r. ⌜ r ≡ third-at (now (correlation .entry)) (now (table .entry)) first one place ⌝ }
-{
-    let base = fixed::product(one.energy, QUARTER_Q15);
-    let own = fixed::mac(base, cell(table, place, place), SIXTEENTH_Q15);
-    let second = fixed::mac(own, cell(table, one.place, place), EIGHTH_Q15);
-    let energy = fixed::mac(second, cell(table, first, place), EIGHTH_Q15);
-    step_to(place, fixed::add16(one.sum, correlation[place]), energy)
 }
 
 fn fourth_at(
@@ -291,5 +457,5 @@ fn better(held: Step, next: Step) -> Step
 fn exceeds(square: i16, energy: i16, held_square: i16, held_energy: i16) -> bool
     ensures { λ r. ⌜ r ≡ exceeds square energy «held_square» «held_energy» ⌝ }
 {
-    0 < fixed::msu(fixed::product(held_energy, square), held_square, energy)
+    fixed::exact(held_square, energy) < fixed::exact(held_energy, square)
 }

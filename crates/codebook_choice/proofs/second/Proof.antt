@@ -1,69 +1,51 @@
+use borrow.Author.Needs.{needs}
 use Rattle.codebook_choice.proofs.second.Statement.{statement}
 use Rattle.codebook_choice.proofs.second.Tie as tie
-use borrow.Author.Needs.{needs}
-use Prim.Native.Nat.{_≤_, _<_, _-_}
-use mathlib.Core.Path.{_≡_}
-use native.Mathlib.Omega.{arith}
-use native.Mathlib.Numerals.{add-one}
-use Rattle.codebook_choice.specs.Choices.{second-at, best-step}
+use mathlib.Core.List.{[]}
+use mathlib.Core.Path.{_≡_, refl}
+use Prim.Native.Nat.{_+_, _*_}
+use mir.Syntax.{w16}
+use mir.Val.{toZ, ofZ}
+use Rattle.fixed.proofs.Bounds.{got}
+use Rattle.fixed.specs.Lists.{at}
+use Rattle.codebook_choice.specs.Choices.{step-to, second-at}
+use Rattle.codebook_choice.proofs.Tracks.{best-of}
 
-abbrev Inv-loop : tie.InvT-loop
-Inv-loop correlation table first track held₀ n₀ held n = (first < 40) × (track < 5) × (n ≤ 8) × (held ≡ best-step (second-at correlation table first) track n)
+mul-sum : tie.Need-mul-sum
+mul-sum c = search needs
 
-abbrev μ-loop : tie.MeasureT-loop
-μ-loop correlation table first track held₀ n₀ held n = 8 - n
+element-copy-out-sum : tie.Need-element-copy-out-sum
+element-copy-out-sum c = search needs
 
-none-in-requires : tie.Need-none-in-requires Inv-loop μ-loop
-none-in-requires c κs = search needs
+squares-requires : tie.Need-squares-requires
+squares-requires c κs = search needs
 
-loop-holds : tie.Need-loop-holds Inv-loop μ-loop
-unfolding best-step
-loop-holds c = (c .before .pre .0, c .before .pre .1, omega arith, c .none-in .ensures)
+second-energies-requires : tie.Need-second-energies-requires
+second-energies-requires c κs = search needs
 
-mul-second-at : tie.Need-mul-second-at Inv-loop μ-loop
-mul-second-at c = search needs
+best-requires : tie.Need-best-requires
+best-requires c κs = search needs
 
-add-second-at : tie.Need-add-second-at Inv-loop μ-loop
-add-second-at c = search needs
-
-second-at-requires : tie.Need-second-at-requires Inv-loop μ-loop
-second-at-requires c κs = let s = c .before in (s .loop .inv .0, omega (arith, s .loop .inv .1))
-
-better-requires : tie.Need-better-requires Inv-loop μ-loop
-better-requires c κs = tt
-
-add-n : tie.Need-add-n Inv-loop μ-loop
-add-n c = search needs
-
-loop-less : tie.Need-loop-less Inv-loop μ-loop
-loop-less c = search needs
-
-loop-again : tie.Need-loop-again Inv-loop μ-loop
-unfolding best-step
-loop-again c =
-    let s = c .before .before .before in
-    let n = s .loop .n in
-    (s .loop .inv .0, s .loop .inv .1, omega arith, rw (add-one n, ← (s .loop .inv .3), c .better .ensures, c .before .second-at .ensures))
-
-returns : tie.Need-returns Inv-loop μ-loop
+returns : tie.Need-returns
+unfolding second-at step-to
 returns c =
-    let s = c .before in
-    let e : s .loop .n ≡ 8 = omega arith in
-    rw e at (s .loop .inv .3)
+    let g = c .before .before .before in
+    let q = g .before in
+    let s = q .before in
+    let a = s .before .args in
+    let cs = a .correlation .now in
+    let m = a .table .now in
+    let y : toZ w16 (ofZ w16 (at cs (a .first))) ≡ at cs (a .first) = got w16 (s .sum .given) refl in
+    rw (c .best .ensures, g .second-energies .ensures, q .squares .ensures, y)
+    (best-of (second-at cs m (a .first)) cs (at cs (a .first)) (λ n. second-at [] m (a .first) (a .track + 5 * n) .energy) (a .track) (s .before .pre .1) (λ p. refl) (λ n h. refl))
 
 pub second-spec : {M : Type 1} → statement M
 second-spec =
     tie.close
     (tie.spec
-    Inv-loop
-    μ-loop
-    none-in-requires
-    loop-holds
-    mul-second-at
-    add-second-at
-    second-at-requires
-    better-requires
-    add-n
-    loop-less
-    loop-again
+    mul-sum
+    element-copy-out-sum
+    squares-requires
+    second-energies-requires
+    best-requires
     returns)
