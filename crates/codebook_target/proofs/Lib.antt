@@ -1,3 +1,4 @@
 -- The laws that belong to no one function.
 pub mod Sharpening
 pub mod Starting
+pub mod Followed

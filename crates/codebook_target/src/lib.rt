@@ -1,7 +1,10 @@
 // What the pulse search is led by, from codebook/search.rs: the sharpened impulse, the target's correlation with it, the signs and the starts that the correlation gives.
 ghost use mathlib.Core.Path.{_≡_};
-ghost use Prim.Native.Nat.{_<_};
-ghost use Rattle.fixed.specs.Lists.{tabulate};
+ghost use mathlib.Core.Bool.{true};
+ghost use Prim.Native.Nat.{_+_, _^_, _<_, _≤_};
+ghost use lib.IntN.{pos, _*ℤ_};
+ghost use Rattle.fixed.specs.Lists.{at, tabulate, between};
+ghost use Rattle.fixed.proofs.Quiet.{squared, plain};
 ghost use Rattle.codebook_target.specs.Sharpenings.{doubled, sharpened};
 ghost use Rattle.codebook_target.specs.Targets.{correlated, greater, greatest, total, cor-h-x};
 ghost use Rattle.codebook_target.specs.Starts.{sign-of, signs-of, magnitudes-of, lesser, least, set-sign};
@@ -20,6 +23,9 @@ const DROPS: usize = 20;
 const DROPPED: i16 = -1;
 
 const INITIAL_MAXIMUM_SUM: i32 = 5;
+
+// An energy at the clip.
+const CLIPPED: i32 = 2147483647;
 
 // ---- Sharpening.
 
@@ -61,8 +67,60 @@ pub fn target_correlation(target: &[i16; 40], impulse: &[i16; 40]) -> [i16; 40]
     correlation
 }
 
-// Word by word of the impulse: the 40 sums grow side by side, each in its own order.
+// Where neither energy is clipped, no product and no sum of products is: 2 |a b| is at most a² + b².
 fn raw_correlations(target: &[i16; 40], impulse: &[i16; 40]) -> [i32; 40]
+    ensures { λ r. ⌜ r ≡ tabulate (correlated (now (target .entry)) (now (impulse .entry))) 40 ⌝ }
+{
+    if is_quiet(target) & is_quiet(impulse) {
+        return plain_correlations(target, impulse);
+    }
+    clipped_correlations(target, impulse)
+}
+
+// An energy that is not clipped.
+fn is_quiet(list: &[i16; 40]) -> bool
+    ensures { λ r. ⌜ (r ≡ true → squared (at (now (list .entry))) 40 < 2 ^ 30) ⌝ }
+{
+    fixed::energy40(list) < CLIPPED
+}
+
+// Each sum takes 40 products, and those past the target's end have a factor 0: a fixed count is quicker than one that shrinks.
+fn plain_correlations(target: &[i16; 40], impulse: &[i16; 40]) -> [i32; 40]
+    requires { ⌜ squared (at (now target)) 40 + squared (at (now impulse)) 40 < 2 ^ 31 ⌝ }
+    ensures { λ r. ⌜ r ≡ tabulate (correlated (now (target .entry)) (now (impulse .entry))) 40 ⌝ }
+{
+    let padded = padded(target);
+    let mut sums = [0i32; 40];
+    for i in 0..40 {
+        sums[i] = plain_sum(&padded, i, impulse);
+    }
+    sums
+}
+
+// The target, and 40 zeros.
+fn padded(target: &[i16; 40]) -> [i16; 80]
+    ensures { λ r. ⌜ r ≡ tabulate (between (at (now (target .entry))) (λ j. pos 0) 0 40) 80 ⌝ }
+{
+    let mut list = [0i16; 80];
+    for j in 0..40 {
+        list[j] = target[j];
+    }
+    list
+}
+
+fn plain_sum(padded: &[i16; 80], from: usize, impulse: &[i16; 40]) -> i32
+    requires { ⌜ (from ≤ 40) × (squared (λ k. at (now padded) (from + k)) 40 + squared (at (now impulse)) 40 < 2 ^ 31) ⌝ }
+    ensures { λ r. ⌜ r ≡ pos 2 *ℤ plain (λ k. at (now (padded .entry)) (from + k)) (at (now (impulse .entry))) 40 ⌝ }
+{
+    let mut sum: i32 = 0;
+    for k in 0..40 {
+        sum = sum + fixed::exact(padded[from + k], impulse[k]);
+    }
+    2 * sum
+}
+
+// Word by word of the impulse: the 40 sums grow side by side, each in its own order.
+fn clipped_correlations(target: &[i16; 40], impulse: &[i16; 40]) -> [i32; 40]
     ensures { λ r. ⌜ r ≡ tabulate (correlated (now (target .entry)) (now (impulse .entry))) 40 ⌝ }
 {
     let mut sums = [0i32; 40];
