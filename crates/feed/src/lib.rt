@@ -6,11 +6,8 @@ ghost use lib.IntN.{pos};
 ghost use lib.ListN.{length};
 ghost use Rattle.fixed.specs.Operators.{extract-l, remainder};
 ghost use Rattle.fixed.specs.Lists.{at, tabulate};
-ghost use Rattle.feed.specs.Records.{told-header, header, body};
+ghost use Rattle.feed.specs.Records.{told-header, body-length, header, body};
 ghost use Rattle.feed.specs.Words.{words, words-into, turned};
-
-// By the kind: reset, half frame, pitch, pulses, gain, filtering, lag reading.
-const LENGTHS: [usize; 7] = [0, 160, 551, 163, 245, 184, 2];
 
 const LAST_KIND: u8 = 6;
 
@@ -33,7 +30,7 @@ pub fn header_at(feed: &[u8], at: usize) -> Header
         return Header::Refused(Refusal::Kind(kind));
     }
     let start = at + 1;
-    let needed = LENGTHS[kind as usize];
+    let needed = body_length(kind);
     let present = feed.len() - start;
     if present < needed {
         return Header::Refused(Refusal::FeedEnd(present));
@@ -41,6 +38,22 @@ pub fn header_at(feed: &[u8], at: usize) -> Header
     Header::Record {
         kind,
         next: start + needed,
+    }
+}
+
+// Reset, half frame, pitch, pulses, gain, filtering, lag reading.
+fn body_length(kind: u8) -> usize
+    requires { ⌜ kind ≤ 6 ⌝ }
+    ensures { λ r. ⌜ r ≡ body-length kind ⌝ }
+{
+    match kind {
+        0 => 0,
+        1 => 160,
+        2 => 551,
+        3 => 163,
+        4 => 245,
+        5 => 184,
+        _ => 2,
     }
 }
 

@@ -10,6 +10,7 @@ use pitch_search::Search;
 use refusal::Refusal;
 use selection::Answer;
 ghost use Prim.Native.Nat.{_≤_};
+ghost use lib.ListN.{length};
 
 // What is carried from record to record, beside the lists that `main` lends.
 struct State {
@@ -304,9 +305,15 @@ fn put_decimal(output: &mut [u8; 65536], filled: usize, n: u64) -> usize {
         let upper = put_small(output, filled, (n / 100000) as u32);
         return put_five(output, upper, (n % 100000) as u32);
     }
-    let mut text = [0u8; 20];
-    let digits = io::decimal(n, &mut text);
-    put_text(output, filled, &text[..digits])
+    if n < 1000000000000000 {
+        let upper = put_small(output, filled, (n / 10000000000) as u32);
+        let middle = put_five(output, upper, (n / 100000 % 100000) as u32);
+        return put_five(output, middle, (n % 100000) as u32);
+    }
+    let top = put_small(output, filled, (n / 1000000000000000) as u32);
+    let upper = put_five(output, top, (n / 10000000000 % 100000) as u32);
+    let middle = put_five(output, upper, (n / 100000 % 100000) as u32);
+    put_five(output, middle, (n % 100000) as u32)
 }
 
 // A number below 100000.
@@ -352,23 +359,26 @@ fn digit(n: u32) -> u8 {
     (48 + n % 10) as u8
 }
 
-// A place of the output block with five bytes from it on; where fewer are left, the block is written first.
+// A place of the output block with 20 bytes from it on; where fewer are left, the block is written first.
 fn room(output: &[u8; 65536], filled: usize) -> usize
-    ensures { λ r. ⌜ r ≤ 65531 ⌝ }
+    ensures { λ r. ⌜ r ≤ 65516 ⌝ }
 {
-    if 65531 < filled {
+    if 65516 < filled {
         flush(output, filled);
         return 0;
     }
     filled
 }
 
-fn put_text(output: &mut [u8; 65536], filled: usize, text: &[u8]) -> usize {
-    let mut next = filled;
+// At most 20 bytes.
+fn put_text(output: &mut [u8; 65536], filled: usize, text: &[u8]) -> usize
+    requires { ⌜ length (now text) ≤ 20 ⌝ }
+{
+    let at = room(output, filled);
     for i in 0..text.len() {
-        next = put(output, next, text[i]);
+        output[at + i] = text[i];
     }
-    next
+    at + text.len()
 }
 
 // A full block is written first.

@@ -1,24 +1,30 @@
 use borrow.Author.Needs.{needs}
-use Prim.Native.Nat.{_-_}
 use mathlib.Core.Path.{_≡_}
+use Prim.Native.Nat.{_-_, _≤_}
 use lib.ListN.{length}
 use Rattle.select.proofs.put_text.Statement.{statement}
 use Rattle.select.proofs.put_text.Tie as tie
 
 abbrev Inv-loop : tie.InvT-loop
-Inv-loop output₀ filled text next₀ i₀ i-end output next i = i-end ≡ length text
+Inv-loop output₀ filled text at i₀ i-end output i = (i-end ≡ length text) × (i-end ≤ 20) × (at ≤ 65516)
 
 abbrev μ-loop : tie.MeasureT-loop
-μ-loop output₀ filled text next₀ i₀ i-end output next i = i-end - i
+μ-loop output₀ filled text at i₀ i-end output i = i-end - i
+
+room-requires : tie.Need-room-requires Inv-loop μ-loop
+room-requires c κs = search needs
 
 loop-holds : tie.Need-loop-holds Inv-loop μ-loop
 loop-holds c = search needs
 
-shared-slice-read-put : tie.Need-shared-slice-read-put Inv-loop μ-loop
-shared-slice-read-put c = search needs
+shared-slice-read-output : tie.Need-shared-slice-read-output Inv-loop μ-loop
+shared-slice-read-output c = search needs
 
-put-requires : tie.Need-put-requires Inv-loop μ-loop
-put-requires c κs = search needs
+add-output : tie.Need-add-output Inv-loop μ-loop
+add-output c = search needs
+
+element-write-output : tie.Need-element-write-output Inv-loop μ-loop
+element-write-output c = search needs
 
 add-i : tie.Need-add-i Inv-loop μ-loop
 add-i c = search needs
@@ -29,6 +35,9 @@ loop-less c = search needs
 loop-again : tie.Need-loop-again Inv-loop μ-loop
 loop-again c = search needs
 
+add-result : tie.Need-add-result Inv-loop μ-loop
+add-result c = search needs
+
 returns : tie.Need-returns Inv-loop μ-loop
 returns c = search needs
 
@@ -38,10 +47,13 @@ put-text-spec =
     (tie.spec
     Inv-loop
     μ-loop
+    room-requires
     loop-holds
-    shared-slice-read-put
-    put-requires
+    shared-slice-read-output
+    add-output
+    element-write-output
     add-i
     loop-less
     loop-again
+    add-result
     returns)

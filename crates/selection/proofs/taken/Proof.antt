@@ -1,26 +1,18 @@
 use borrow.Author.Needs.{needs}
 use mathlib.Core.Path.{_≡_, ap, _∙_}
-use Prim.Native.Nat.{ℕ, _≤_}
-use native.Mathlib.Omega.{arith}
 use Rattle.open_loop.specs.Detectors.{fresh-detector}
 use Rattle.feed.specs.Records.{lengths, body-length}
+use Rattle.feed.proofs.Standings.{last-kind}
 use Rattle.selection.specs.declared.Selection.{Selection}
 use Rattle.selection.specs.Steps.{selection-of, fresh-selection, half-frame, pulse, gain, of-kind}
 use Rattle.selection.proofs.taken.Statement.{statement}
 use Rattle.selection.proofs.taken.Tie as tie
 
--- a kind at most 6 that is none of 0 to 5
-above-2 : (k : ℕ) → (k ≡ 0 → ⊥) → (k ≡ 1 → ⊥) → (k ≡ 2 → ⊥) → 3 ≤ k
-above-2 k a b c = omega arith
-
-above-5 : (k : ℕ) → 3 ≤ k → k ≤ 6 → (k ≡ 3 → ⊥) → (k ≡ 4 → ⊥) → (k ≡ 5 → ⊥) → k ≡ 6
-above-5 k l h a b c = omega arith
-
 reading : (c : tie.At-match-rest) → c .before .before .args .kind ≡ 6
 reading c =
     let r = c .match .rest in
     let q = r .0 .0 .0 in
-    above-5 _ (above-2 _ (q .0 .0 .1) (q .0 .1) (q .1)) (c .before .before .pre .0) (r .0 .0 .1) (r .0 .1) (r .1)
+    last-kind _ (c .before .before .pre .0) (q .0 .0 .1) (q .0 .1) (q .1) (r .0 .0 .1) (r .0 .1) (r .1)
 
 -- what is lent, as one
 abbrev lent : tie.After-shared-slice-known → Selection
