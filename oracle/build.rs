@@ -1,4 +1,5 @@
-//! Compiles the published Rust into the oracle and links the library.
+//! Compiles the published Rust into the oracle and links the operators' library. The stages' is
+//! linked by the Rust bindings.
 //!
 //! The published files are copied to the output folder as they stand, with the texts of
 //! `REPLACED` replaced so that private functions can be called and private fields read. Nothing of
@@ -248,7 +249,7 @@ fn main() {
     let oracle = PathBuf::from(variable("CARGO_MANIFEST_DIR").expect("set by cargo"));
     let output = PathBuf::from(variable("OUT_DIR").expect("set by cargo"));
     compile_published(&oracle, &output);
-    link_library(&oracle);
+    link_leaves(&oracle);
 }
 
 fn compile_published(oracle: &Path, output: &Path) {
@@ -371,25 +372,23 @@ fn same_words(left: &str, right: &str) -> bool {
     left.split_whitespace().eq(right.split_whitespace())
 }
 
-fn link_library(oracle: &Path) {
+fn link_leaves(oracle: &Path) {
     println!("cargo:rerun-if-env-changed=MR74_LIB");
     let folder = match variable("MR74_LIB") {
         Some(folder) => PathBuf::from(folder),
         None => oracle.join("../target/staticlib"),
     };
-    println!("cargo:rustc-link-search=native={}", folder.display());
-    for library in ["mr74", "mr74_leaves"] {
-        let archive = folder.join(format!("lib{library}.a"));
-        if !archive.is_file() {
-            panic!(
-                "{} is missing: `rt staticlib {library}` builds it (oracle/run does), or set \
-                 MR74_LIB to a folder that has it",
-                archive.display()
-            );
-        }
-        println!("cargo:rerun-if-changed={}", archive.display());
-        println!("cargo:rustc-link-lib=static={library}");
+    let archive = folder.join("libmr74_leaves.a");
+    if !archive.is_file() {
+        panic!(
+            "{} is missing: `rt staticlib mr74_leaves` builds it (oracle/run does), or set \
+             MR74_LIB to a folder that has it",
+            archive.display()
+        );
     }
+    println!("cargo:rerun-if-changed={}", archive.display());
+    println!("cargo:rustc-link-search=native={}", folder.display());
+    println!("cargo:rustc-link-lib=static=mr74_leaves");
 }
 
 /// An environment variable that is set to no text counts as not set.

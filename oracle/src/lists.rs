@@ -4,7 +4,7 @@ use crate::{
     codec::mr74::pitch::search::convolve,
     compare::{Function, function},
     inputs::{Inputs, Random},
-    project::{self, LengthAnswer, leaf_dot40, leaf_energy40},
+    project::{self, ACCEPTED, LengthAnswer, leaf_dot40, leaf_energy40},
     published,
     speech::Speech,
     subframes::{check_lengths, length_answer},
@@ -25,7 +25,7 @@ pub fn functions() -> [Function; 4] {
             "pitch/search.rs target sum" => published::dot40(&x.0, &y.0),
         }),
         function!("convolve", convolve_inputs(), |(input, impulse)| convolved(input, impulse), {
-            "pitch/search.rs" => (LengthAnswer::ACCEPTED, convolve(&input.0, &impulse.0)),
+            "pitch/search.rs" => (ACCEPTED, convolve(&input.0, &impulse.0)),
         }),
         function!("convolve", wrong_lengths(), |lengths| refused(lengths), {
             "rule of 01 for the lengths" => (

@@ -5,6 +5,7 @@
 //! and the detector have a state, so they are compared in chains of calls. Where a comparison is
 //! made of words that were drawn, the cases that it must meet are counted.
 
+mod bindings;
 mod calls;
 mod cases;
 mod chains;
@@ -34,6 +35,7 @@ mod words;
 // The published files name each other by `crate::codec`.
 use published::codec;
 
+use compare::Function;
 use std::{
     env, fs,
     io::{self, Read, Write},
@@ -41,7 +43,7 @@ use std::{
     process::ExitCode,
 };
 
-const USAGE: &str = "usage: oracle [compare NAME.. | select [RECORDS] | answers [FEED] | \
+const USAGE: &str = "usage: oracle [compare NAME.. | bindings | select [RECORDS] | answers [FEED] | \
                      feed NAME RECORDS [SEED] | record [FOLDER] | speed]";
 const RECORD_FOLDER: &str = concat!(env!("CARGO_MANIFEST_DIR"), "/../crates");
 const SAMPLE_FOLDER: &str = concat!(env!("CARGO_MANIFEST_DIR"), "/../samples");
@@ -55,6 +57,7 @@ fn main() -> ExitCode {
     let done = match words.as_slice() {
         [] => compare_functions(&[]),
         ["compare", names @ ..] => compare_functions(names),
+        ["bindings"] => compare_all(&bindings::functions(), &[]),
         ["select"] => compare_select(SELECT_RECORDS),
         ["select", records] => number(records).and_then(compare_select),
         ["answers"] => print_answers(None),
@@ -98,9 +101,13 @@ fn compare_functions(names: &[&str]) -> Result<ExitCode, String> {
             return Err(format!("no function {name}; known: {}", known.join(" ")));
         }
     }
+    compare_all(&functions, names)
+}
+
+fn compare_all(functions: &[Function], names: &[&str]) -> Result<ExitCode, String> {
     let mut compared = 0;
     let mut differ = 0;
-    for function in &functions {
+    for function in functions {
         if !names.is_empty() && !names.contains(&function.name) {
             continue;
         }

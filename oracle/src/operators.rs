@@ -234,10 +234,10 @@ fn tables() -> [Function; 4] {
         function!("inverse_sqrt", every::<i32>(), |v| leaf_inverse_sqrt(v), {
             "energy.rs" => inverse_sqrt(v),
         }),
-        function!("log2", every::<i32>(), |v| mr74_log2(v), {
+        function!("log2", every::<i32>(), |v| log2(v), {
             "logarithm.rs" => logarithm(v),
         }),
-        function!("pow2", every::<(u8, u16)>(), |(e, f)| mr74_pow2(e, f), {
+        function!("pow2", every::<(u8, u16)>(), |(e, f)| pow2(e, f), {
             "logarithm.rs" => power(e, f),
         }),
     ]
@@ -255,12 +255,12 @@ fn logarithm(value: i32) -> Logarithm {
 }
 
 /// The published answer in the form of the library's.
-fn power(exponent: u8, fraction_q15: u16) -> Power {
+fn power(exponent: u8, fraction_q15: u16) -> PowerAnswer {
     let (number, magnitude, value) = match published::pow2(exponent, fraction_q15) {
         Ok(value) => (0, 0, value),
         Err(detail) => (published::POWER_DOMAIN, detail, 0),
     };
-    Power {
+    PowerAnswer {
         number,
         negative: 0,
         magnitude,

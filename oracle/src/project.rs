@@ -1,12 +1,15 @@
-//! The library's side: the functions of its static libraries.
+//! The library's side: the functions of its static libraries. Those that other programs call are
+//! declared by the Rust bindings, so it is these that are compared.
 //!
-//! Nothing checks these declarations against the library's source; they repeat its interface.
+//! Nothing checks the declarations against the library's source; they repeat its interface.
 
-mod gain;
-mod step;
+pub use mr74::entries::{
+    END, GainAnswer, LengthAnswer, Logarithm, OpenLoopAnswer, PitchAnswer, PitchGainAnswer,
+    PitchState, PlacesAnswer, PowerAnswer, PulsesAnswer, SharpeningGain, StepAnswer, convolve,
+    fresh_pitch, log2, open_loop, pow2, read_lag, read_pulses, residual,
+};
 
-pub use gain::*;
-pub use step::*;
+use mr74::entries;
 
 /// A 32-bit number as its high word and its 15 low bits.
 #[repr(C)]
@@ -16,47 +19,11 @@ pub struct Halves {
     pub low: i16,
 }
 
-#[repr(C)]
-#[derive(Debug, Clone, Copy, PartialEq, Eq)]
-pub struct Logarithm {
-    pub exponent: u8,
-    pub fraction_q15: u16,
-}
-
-/// The number of the refusal, 0 where accepted, with its detail as a sign and a magnitude.
-#[repr(C)]
-#[derive(Debug, Clone, Copy, PartialEq, Eq)]
-pub struct Power {
-    pub number: u8,
-    /// A truth value, read as a number so that any byte can be compared.
-    pub negative: u8,
-    pub magnitude: u64,
-    pub value: i32,
-}
-
-/// A searcher or a lag reader: the whole lag before, its thirds, and the subframe expected next.
-#[repr(C)]
-#[derive(Debug, Clone, Copy, PartialEq, Eq)]
-pub struct PitchState {
-    pub samples: u16,
-    pub fraction: i16,
-    pub next: u8,
-}
-
-/// The number of the refusal, 0 where accepted, with its detail; the answer, 0 where refused; and
-/// the state after the call.
-#[repr(C)]
-#[derive(Debug, Clone, Copy, PartialEq, Eq)]
-pub struct PitchAnswer {
-    pub number: u8,
-    pub magnitude: u64,
-    pub index: u8,
-    pub samples: u16,
-    pub fraction: i16,
-    pub previous_samples: u16,
-    pub previous_fraction: i16,
-    pub next: u8,
-}
+/// What a function that refuses nothing but lengths answers where it is accepted.
+pub const ACCEPTED: LengthAnswer = LengthAnswer {
+    number: 0,
+    magnitude: 0,
+};
 
 /// A `PitchAnswer` without the state.
 #[derive(Debug, Clone, Copy, PartialEq, Eq)]
@@ -68,77 +35,16 @@ pub struct Answer {
     pub fraction: i16,
 }
 
-impl PitchAnswer {
-    pub fn answer(&self) -> Answer {
-        Answer {
-            number: self.number,
-            magnitude: self.magnitude,
-            index: self.index,
-            samples: self.samples,
-            fraction: self.fraction,
+impl From<PitchAnswer> for Answer {
+    fn from(answer: PitchAnswer) -> Self {
+        Self {
+            number: answer.number,
+            magnitude: answer.magnitude,
+            index: answer.index,
+            samples: answer.samples,
+            fraction: answer.fraction,
         }
     }
-
-    pub fn state(&self) -> PitchState {
-        PitchState {
-            samples: self.previous_samples,
-            fraction: self.previous_fraction,
-            next: self.next,
-        }
-    }
-}
-
-/// The number of the refusal, 0 where accepted, with the wrong length.
-#[repr(C)]
-#[derive(Debug, Clone, Copy, PartialEq, Eq)]
-pub struct LengthAnswer {
-    pub number: u8,
-    pub magnitude: u64,
-}
-
-impl LengthAnswer {
-    pub const ACCEPTED: Self = Self {
-        number: 0,
-        magnitude: 0,
-    };
-}
-
-/// The number of the refusal, 0 where accepted, with the wrong length; and the lag, 0 where refused.
-#[repr(C)]
-#[derive(Debug, Clone, Copy, PartialEq, Eq)]
-pub struct OpenLoopAnswer {
-    pub number: u8,
-    pub magnitude: u64,
-    pub lag: u16,
-}
-
-/// The gain of the pitch sharpening, with 14 fraction bits.
-#[repr(C)]
-#[derive(Debug, Clone, Copy, PartialEq, Eq)]
-pub struct SharpeningGain(pub i16);
-
-/// The number of the refusal, 0 where accepted, with its detail; and the words of the pulses, 0
-/// where refused.
-#[repr(C)]
-#[derive(Debug, Clone, Copy, PartialEq, Eq)]
-pub struct PulsesAnswer {
-    pub number: u8,
-    pub magnitude: u64,
-    pub positions: u16,
-    pub signs: u16,
-}
-
-/// The number of the refusal, 0 where accepted, with its detail; and the places of the pulses, 0
-/// where refused.
-#[repr(C)]
-#[derive(Debug, Clone, Copy, PartialEq, Eq)]
-pub struct PulseReadingAnswer {
-    pub number: u8,
-    pub magnitude: u64,
-    pub first: usize,
-    pub second: usize,
-    pub third: usize,
-    pub last: usize,
 }
 
 // These take and give numbers alone, or borrow lists of a fixed length, and are defined on all
@@ -176,104 +82,9 @@ unsafe extern "C" {
     pub safe fn leaf_product_high(left: i16, right: i16, count: u32) -> i16;
     pub safe fn leaf_energy40(words: &[i16; 40]) -> i32;
     pub safe fn leaf_dot40(left: &[i16; 40], right: &[i16; 40]) -> i32;
-
-    pub safe fn mr74_log2(value: i32) -> Logarithm;
-    pub safe fn mr74_pow2(exponent: u8, fraction_q15: u16) -> Power;
-    pub safe fn mr74_fresh_pitch() -> PitchState;
-    pub safe fn mr74_read_lag(state: PitchState, subframe: u8, index: u8) -> PitchAnswer;
 }
 
-// A list is lent as its first word and its length.
-unsafe extern "C" {
-    fn mr74_convolve(
-        input: *const i16,
-        input_length: usize,
-        impulse_q12: *const i16,
-        impulse_length: usize,
-        output: *mut i16,
-        output_length: usize,
-    ) -> LengthAnswer;
-    fn mr74_pitch_search(
-        state: PitchState,
-        excitation: *const i16,
-        excitation_length: usize,
-        target: *const i16,
-        target_length: usize,
-        impulse_q12: *const i16,
-        impulse_length: usize,
-        first: u16,
-        second: u16,
-        subframe: u8,
-    ) -> PitchAnswer;
-    fn mr74_open_loop(
-        samples: *const i16,
-        samples_length: usize,
-        history: *mut i16,
-        history_length: usize,
-    ) -> OpenLoopAnswer;
-    fn mr74_residual(
-        coefficients_q12: *const i16,
-        coefficients_length: usize,
-        samples: *const i16,
-        samples_length: usize,
-        residual_q0: *mut i16,
-        residual_length: usize,
-    ) -> LengthAnswer;
-    fn mr74_prepare(
-        speech_q0: *const i16,
-        speech_length: usize,
-        coefficients_q12: *const i16,
-        coefficients_length: usize,
-        quantized_q12: *const i16,
-        quantized_length: usize,
-        error_history_q0: *const i16,
-        error_history_length: usize,
-        weighting_history_q0: *const i16,
-        weighting_history_length: usize,
-        residual_q0: *mut i16,
-        residual_length: usize,
-        impulse_q12: *mut i16,
-        impulse_length: usize,
-        target_q0: *mut i16,
-        target_length: usize,
-        error_q0: *mut i16,
-        error_length: usize,
-    ) -> LengthAnswer;
-    fn mr74_pulse_search(
-        target: *const i16,
-        target_length: usize,
-        impulse_q12: *const i16,
-        impulse_length: usize,
-        lag: u16,
-        pitch_sharp_q14: SharpeningGain,
-        innovation_q13: *mut i16,
-        innovation_length: usize,
-        filtered_q12: *mut i16,
-        filtered_length: usize,
-        sharpened_impulse_q12: *mut i16,
-        sharpened_impulse_length: usize,
-    ) -> PulsesAnswer;
-    fn mr74_read_pulses(
-        positions: u16,
-        signs: u16,
-        samples_q13: *mut i16,
-        samples_length: usize,
-    ) -> PulseReadingAnswer;
-}
-
-pub fn convolve(input: &[i16], impulse_q12: &[i16], output: &mut [i16]) -> LengthAnswer {
-    // SAFETY: each pointer is that of a list with the length beside it, borrowed for the call.
-    unsafe {
-        mr74_convolve(
-            input.as_ptr(),
-            input.len(),
-            impulse_q12.as_ptr(),
-            impulse_q12.len(),
-            output.as_mut_ptr(),
-            output.len(),
-        )
-    }
-}
+// The lists of a call in groups, as the comparisons have them.
 
 pub fn pitch_search(
     state: PitchState,
@@ -283,52 +94,15 @@ pub fn pitch_search(
     [first, second]: [u16; 2],
     subframe: u8,
 ) -> PitchAnswer {
-    // SAFETY: each pointer is that of a list with the length beside it, borrowed for the call.
-    unsafe {
-        mr74_pitch_search(
-            state,
-            excitation.as_ptr(),
-            excitation.len(),
-            target.as_ptr(),
-            target.len(),
-            impulse_q12.as_ptr(),
-            impulse_q12.len(),
-            first,
-            second,
-            subframe,
-        )
-    }
-}
-
-/// The detector's old words are lent, and updated there.
-pub fn open_loop(samples: &[i16], history: &mut [i16]) -> OpenLoopAnswer {
-    // SAFETY: each pointer is that of a list with the length beside it, borrowed for the call.
-    unsafe {
-        mr74_open_loop(
-            samples.as_ptr(),
-            samples.len(),
-            history.as_mut_ptr(),
-            history.len(),
-        )
-    }
-}
-
-pub fn residual(
-    coefficients_q12: &[i16],
-    samples: &[i16],
-    residual_q0: &mut [i16],
-) -> LengthAnswer {
-    // SAFETY: each pointer is that of a list with the length beside it, borrowed for the call.
-    unsafe {
-        mr74_residual(
-            coefficients_q12.as_ptr(),
-            coefficients_q12.len(),
-            samples.as_ptr(),
-            samples.len(),
-            residual_q0.as_mut_ptr(),
-            residual_q0.len(),
-        )
-    }
+    entries::pitch_search(
+        state,
+        excitation,
+        target,
+        impulse_q12,
+        first,
+        second,
+        subframe,
+    )
 }
 
 /// Reads the speech, the coefficients, the quantized ones, the error history and the weighting
@@ -342,29 +116,17 @@ pub fn prepare(read: [&[i16]; 5], written: [&mut [i16]; 4]) -> LengthAnswer {
         weighting_history,
     ] = read;
     let [residual, impulse, target, error] = written;
-    // SAFETY: each pointer is that of a list with the length beside it, borrowed for the call.
-    unsafe {
-        mr74_prepare(
-            speech.as_ptr(),
-            speech.len(),
-            coefficients.as_ptr(),
-            coefficients.len(),
-            quantized.as_ptr(),
-            quantized.len(),
-            error_history.as_ptr(),
-            error_history.len(),
-            weighting_history.as_ptr(),
-            weighting_history.len(),
-            residual.as_mut_ptr(),
-            residual.len(),
-            impulse.as_mut_ptr(),
-            impulse.len(),
-            target.as_mut_ptr(),
-            target.len(),
-            error.as_mut_ptr(),
-            error.len(),
-        )
-    }
+    entries::prepare(
+        speech,
+        coefficients,
+        quantized,
+        error_history,
+        weighting_history,
+        residual,
+        impulse,
+        target,
+        error,
+    )
 }
 
 /// Reads the target and the impulse response, and writes the innovation, the filtered pulses and
@@ -373,36 +135,70 @@ pub fn pulse_search(
     [target, impulse_q12]: [&[i16]; 2],
     lag: u16,
     pitch_sharp_q14: SharpeningGain,
-    written: [&mut [i16]; 3],
+    [innovation, filtered, sharpened_impulse]: [&mut [i16]; 3],
 ) -> PulsesAnswer {
-    let [innovation, filtered, sharpened_impulse] = written;
-    // SAFETY: each pointer is that of a list with the length beside it, borrowed for the call.
-    unsafe {
-        mr74_pulse_search(
-            target.as_ptr(),
-            target.len(),
-            impulse_q12.as_ptr(),
-            impulse_q12.len(),
-            lag,
-            pitch_sharp_q14,
-            innovation.as_mut_ptr(),
-            innovation.len(),
-            filtered.as_mut_ptr(),
-            filtered.len(),
-            sharpened_impulse.as_mut_ptr(),
-            sharpened_impulse.len(),
-        )
-    }
+    entries::pulse_search(
+        target,
+        impulse_q12,
+        lag,
+        pitch_sharp_q14,
+        innovation,
+        filtered,
+        sharpened_impulse,
+    )
 }
 
-pub fn read_pulses(positions: u16, signs: u16, samples_q13: &mut [i16]) -> PulseReadingAnswer {
-    // SAFETY: the pointer is that of a list with the length beside it, borrowed for the call.
-    unsafe {
-        mr74_read_pulses(
-            positions,
-            signs,
-            samples_q13.as_mut_ptr(),
-            samples_q13.len(),
-        )
+pub fn pitch_gain([target, adaptive]: [&[i16]; 2]) -> PitchGainAnswer {
+    entries::pitch_gain(target, adaptive)
+}
+
+/// Reads the target, the adaptive words and the filtered innovation.
+pub fn quantize(
+    [target, adaptive, filtered]: [&[i16]; 3],
+    exponent: i16,
+    fraction: u16,
+    limit: u8,
+) -> GainAnswer {
+    entries::quantize(target, adaptive, filtered, exponent, fraction, limit)
+}
+
+/// The record at a place of the feed, by a searcher and a reader. The detector's old words are lent
+/// and updated there, and the words of a filtering record are written to the last list.
+pub fn step(
+    feed: &[u8],
+    at: usize,
+    [searcher, reader]: [PitchState; 2],
+    history_q0: &mut [i16],
+    words: &mut [i16],
+) -> StepAnswer {
+    entries::step(feed, at, searcher, reader, history_q0, words)
+}
+
+/// The searcher and the reader after a step.
+pub fn states(answer: &StepAnswer) -> [PitchState; 2] {
+    [
+        PitchState {
+            samples: answer.searcher_samples,
+            fraction: answer.searcher_fraction,
+            next: answer.searcher_next,
+        },
+        PitchState {
+            samples: answer.reader_samples,
+            fraction: answer.reader_fraction,
+            next: answer.reader_next,
+        },
+    ]
+}
+
+/// The same answer with another searcher and reader.
+pub fn with_states(answer: StepAnswer, [searcher, reader]: [PitchState; 2]) -> StepAnswer {
+    StepAnswer {
+        searcher_samples: searcher.samples,
+        searcher_fraction: searcher.fraction,
+        searcher_next: searcher.next,
+        reader_samples: reader.samples,
+        reader_fraction: reader.fraction,
+        reader_next: reader.next,
+        ..answer
     }
 }

@@ -4,7 +4,7 @@ use crate::{
     codec::mr74::pitch::{PitchLag, search::Subframe},
     compare::{Function, function},
     inputs::Inputs,
-    project::{PitchAnswer, PitchState, mr74_read_lag},
+    project::{PitchAnswer, PitchState, read_lag},
     subframes::{Refusal, answer, pitch_state, subframe},
 };
 
@@ -94,7 +94,7 @@ fn made(start: u8, index: u8) -> PitchLag {
 }
 
 fn ours(reading: Reading) -> PitchAnswer {
-    mr74_read_lag(reading.state(), reading.subframe, reading.index)
+    read_lag(reading.state(), reading.subframe, reading.index)
 }
 
 /// The published lag or the refusal, in the form of the library's answer.

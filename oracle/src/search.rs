@@ -8,7 +8,7 @@ use crate::{
     compare::{Function, Line, in_threads},
     counts::Cases,
     feed,
-    project::{PitchAnswer, PitchState, mr74_fresh_pitch, pitch_search},
+    project::{Answer, PitchAnswer, PitchState, fresh_pitch, pitch_search},
     subframes::{Refusal, answer, state, subframe},
 };
 use std::fmt;
@@ -56,12 +56,12 @@ impl Tally {
             Step::Reset => {
                 self.cases.count(Case::Reset);
                 search.reset();
-                ours = mr74_fresh_pitch();
+                ours = fresh_pitch();
             }
             Step::Search(call) => {
                 let library = searched(ours, call);
                 let expected = expected(&mut self.cases, place.case, search, call);
-                let answers = (library.answer(), expected.answer());
+                let answers = (Answer::from(library), Answer::from(expected));
                 self.answers.compared += 1;
                 if answers.0 != answers.1 {
                     self.answers
@@ -119,7 +119,7 @@ impl fmt::Debug for Place<'_> {
 fn compare_chain(tally: &mut Tally, index: u64, feed: &[Step]) {
     let mut chain = Chain::at(index, feed);
     let mut search = Search::default();
-    let mut ours = mr74_fresh_pitch();
+    let mut ours = fresh_pitch();
     let mut number = 0;
     while let Some(step) = chain.next(&search) {
         number += 1;

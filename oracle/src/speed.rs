@@ -127,11 +127,11 @@ fn report_operators() {
         |v| leaf_inverse_sqrt(v),
         inverse_sqrt,
     );
-    ratio::<i32, _, _>("log2", |_| true, |v| mr74_log2(v), logarithm::log2);
+    ratio::<i32, _, _>("log2", |_| true, |v| log2(v), logarithm::log2);
     ratio::<(u8, u16), _, _>(
         "pow2",
         |(e, f)| e <= 30 && f <= 32767,
-        |(e, f)| mr74_pow2(e, f),
+        |(e, f)| pow2(e, f),
         |(e, f)| logarithm::pow2(e, f),
     );
 }
@@ -387,7 +387,7 @@ fn published_pulses(call: &Pulses) -> SearchResult {
     call.search()
 }
 
-fn library_reading((positions, signs): (u16, u16)) -> (PulseReadingAnswer, [i16; SUBFRAME]) {
+fn library_reading((positions, signs): (u16, u16)) -> (PlacesAnswer, [i16; SUBFRAME]) {
     let mut samples = [0; SUBFRAME];
     let answer = read_pulses(positions, signs, &mut samples);
     (answer, samples)

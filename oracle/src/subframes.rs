@@ -2,11 +2,14 @@
 //! counterpart for: subframes as numbers, and the refusals 1 and 2.
 
 use crate::{
-    codec::mr74::pitch::{
-        DeltaIndexError, PitchLag,
-        search::{OpenLoopLag, Search, SearchError, Subframe},
+    codec::mr74::{
+        codebook,
+        pitch::{
+            DeltaIndexError, PitchLag,
+            search::{OpenLoopLag, Search, SearchError, Subframe},
+        },
     },
-    project::{LengthAnswer, PitchAnswer, PitchState},
+    project::{ACCEPTED, LengthAnswer, PitchAnswer, PitchState},
 };
 
 /// What is turned down, by its number in 01 and its detail.
@@ -40,6 +43,16 @@ impl From<DeltaIndexError> for Refusal {
     }
 }
 
+impl From<codebook::Error> for Refusal {
+    fn from(error: codebook::Error) -> Self {
+        let (codebook::Error::Positions(word) | codebook::Error::Signs(word)) = error;
+        Self {
+            number: 8,
+            detail: word.into(),
+        }
+    }
+}
+
 /// Refuses the first length that is not the needed one.
 pub fn check_lengths<const N: usize>(
     lengths: [usize; N],
@@ -57,7 +70,7 @@ pub fn check_lengths<const N: usize>(
 /// The answer of a function that refuses nothing but lengths.
 pub fn length_answer(checked: Result<(), Refusal>) -> LengthAnswer {
     match checked {
-        Ok(()) => LengthAnswer::ACCEPTED,
+        Ok(()) => ACCEPTED,
         Err(refusal) => LengthAnswer {
             number: refusal.number,
             magnitude: refusal.detail,

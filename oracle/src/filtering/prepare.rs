@@ -11,7 +11,7 @@ use crate::{
     compare::Line,
     counts::Cases,
     lent::{Answered, unwritten},
-    project::{self, LengthAnswer},
+    project::{self, ACCEPTED},
     subframes::length_answer,
     words::SUBFRAME,
 };
@@ -124,7 +124,7 @@ impl Compared for Tally {
         answered.compare(
             &mut self.answers,
             (drawn.index, drawn),
-            LengthAnswer::ACCEPTED,
+            ACCEPTED,
             named([
                 &expected.residual_q0,
                 &expected.impulse_q12,

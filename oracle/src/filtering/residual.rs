@@ -9,7 +9,7 @@ use crate::{
     compare::Line,
     counts::{Cases, Found},
     lent::{Answered, unwritten},
-    project::{self, LengthAnswer},
+    project::{self, ACCEPTED},
     subframes::length_answer,
     words::SUBFRAME,
 };
@@ -63,7 +63,7 @@ impl Compared for Tally {
         answered.compare(
             &mut self.answers,
             (drawn.index, drawn),
-            LengthAnswer::ACCEPTED,
+            ACCEPTED,
             [("residual", &expected)],
         );
     }

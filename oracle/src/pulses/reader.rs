@@ -1,10 +1,10 @@
 //! The pulse reader, on all words that it accepts and on refused ones.
 
 use crate::{
-    codec::mr74::codebook::{Codebook, Error},
+    codec::mr74::codebook::Codebook,
     compare::{Function, Line, in_threads},
     lent::{Answered, unwritten},
-    project::{PulseReadingAnswer, read_pulses},
+    project::{PlacesAnswer, read_pulses},
     subframes::{Refusal, check_lengths},
     words::SUBFRAME,
 };
@@ -40,13 +40,7 @@ impl Reading {
     /// The published reading, with the check of 01 that its type makes needless.
     pub fn read(&self) -> Result<Codebook, Refusal> {
         check_lengths([self.length], [SUBFRAME])?;
-        Codebook::try_new(self.positions, self.signs).map_err(|error| {
-            let (Error::Positions(word) | Error::Signs(word)) = error;
-            Refusal {
-                number: 8,
-                detail: word.into(),
-            }
-        })
+        Ok(Codebook::try_new(self.positions, self.signs)?)
     }
 
     /// Compares the answer and the list that was lent.
@@ -65,12 +59,12 @@ impl Reading {
 }
 
 /// An answer of the library, by the places of the pulses or the refusal.
-fn answer(answer: Result<[usize; 4], Refusal>) -> PulseReadingAnswer {
+fn answer(answer: Result<[usize; 4], Refusal>) -> PlacesAnswer {
     let (refusal, [first, second, third, last]) = match answer {
         Ok(places) => (None, places),
         Err(refusal) => (Some(refusal), [0; 4]),
     };
-    PulseReadingAnswer {
+    PlacesAnswer {
         number: refusal.map_or(0, |refusal| refusal.number),
         magnitude: refusal.map_or(0, |refusal| refusal.detail),
         first,

@@ -13,7 +13,7 @@ use crate::{
     inputs::Random,
     lent::{Lent, unwritten},
     open_loop::HISTORY,
-    project::{PitchState, StepAnswer, mr74_fresh_pitch, step},
+    project::{END, PitchState, StepAnswer, fresh_pitch, states, step, with_states},
     subframes::{pitch_state, state},
     words::SUBFRAME,
 };
@@ -39,7 +39,7 @@ struct Kept {
 impl Kept {
     fn fresh() -> Self {
         Self {
-            states: [mr74_fresh_pitch(); 2],
+            states: [fresh_pitch(); 2],
             history: vec![0; HISTORY],
         }
     }
@@ -128,7 +128,7 @@ impl Tally {
                 format!("{feed} record {number}: library {ours}, expected {expected}")
             });
         };
-        if ours.with_states(expected.kept.states) != expected.answer {
+        if with_states(ours, expected.kept.states) != expected.answer {
             tell(
                 &mut self.answers,
                 format!("{ours:?}"),
@@ -142,10 +142,10 @@ impl Tally {
             );
         }
         self.states.compared += 1;
-        if ours.states() != expected.kept.states {
+        if states(&ours) != expected.kept.states {
             tell(
                 &mut self.states,
-                format!("{:?}", ours.states()),
+                format!("{:?}", states(&ours)),
                 format!("{:?}", expected.kept.states),
             );
         } else if let Some([library, other]) = history.difference(&expected.kept.history) {
@@ -184,7 +184,7 @@ impl Tally {
                     ..kept
                 };
                 let expected = Expected {
-                    answer: refused(1, wrong as i64).with_states(kept.states),
+                    answer: with_states(refused(1, wrong as i64), kept.states),
                     words: unwritten(words),
                     kept: after,
                 };
@@ -254,7 +254,7 @@ impl Expected {
 
     fn at_end(stages: &Stages) -> Self {
         let answer = StepAnswer {
-            line: StepAnswer::END,
+            line: END,
             ..refused(0, 0)
         };
         Self::after(answer, vec![0; FILTER_WORDS], stages)
@@ -263,7 +263,7 @@ impl Expected {
     fn after(answer: StepAnswer, words: Vec<i16>, stages: &Stages) -> Self {
         let kept = Kept::of(stages);
         Self {
-            answer: answer.with_states(kept.states),
+            answer: with_states(answer, kept.states),
             words,
             kept,
         }

@@ -1,0 +1,22 @@
+//! Links the library.
+
+use std::{env, path::PathBuf};
+
+fn main() {
+    println!("cargo:rerun-if-env-changed=MR74_LIB");
+    let folder = match env::var_os("MR74_LIB").filter(|folder| !folder.is_empty()) {
+        Some(folder) => PathBuf::from(folder),
+        None => PathBuf::from(env!("CARGO_MANIFEST_DIR")).join("../../target/staticlib"),
+    };
+    let archive = folder.join("libmr74.a");
+    println!("cargo:rerun-if-changed={}", archive.display());
+    if !archive.is_file() {
+        panic!(
+            "{} is missing: `rt staticlib mr74` builds it in the repository's root, or set \
+             MR74_LIB to a folder that has it",
+            archive.display()
+        );
+    }
+    println!("cargo:rustc-link-search=native={}", folder.display());
+    println!("cargo:rustc-link-lib=static=mr74");
+}

@@ -1,0 +1,3 @@
+//! The gain row.
+
+pub mod quantization;

@@ -1,0 +1,149 @@
+//! Every number that is refused, with its detail, and that nothing changes then.
+
+use mr74::{
+    Refusal, SUBFRAME_SAMPLES,
+    codebook::{
+        Codebook,
+        search::{SharpeningGain, search},
+    },
+    entries,
+    gain::quantization::{GainLimit, Prediction, quantize},
+    logarithm::pow2,
+    pitch::{
+        Fraction, LagReader, PitchLag,
+        search::{EXCITATION_SAMPLES, OpenLoopLag, Search, Subframe},
+    },
+};
+
+const SILENCE: [i16; SUBFRAME_SAMPLES] = [0; SUBFRAME_SAMPLES];
+
+fn refusal(number: u8, detail: i64) -> Refusal {
+    Refusal { number, detail }
+}
+
+#[test]
+fn lengths_are_refused_by_1() {
+    let mut output = [7; SUBFRAME_SAMPLES];
+    let answer = entries::convolve(&SILENCE[1..], &SILENCE, &mut output);
+    assert_eq!((answer.number, answer.magnitude), (1, 39));
+    let answer = entries::convolve(&SILENCE, &[], &mut output);
+    assert_eq!((answer.number, answer.magnitude), (1, 0));
+    assert_eq!(output, [7; SUBFRAME_SAMPLES]);
+    let mut history = [7; 142];
+    let answer = entries::open_loop(&[0; 80], &mut history);
+    assert_eq!((answer.number, answer.magnitude, answer.lag), (1, 142, 0));
+    assert_eq!(history, [7; 142]);
+}
+
+#[test]
+fn subframes_and_limits_are_refused_by_2() {
+    let answer = entries::read_lag(entries::fresh_pitch(), 5, 0);
+    assert_eq!((answer.number, answer.magnitude), (2, 5));
+    assert_eq!(answer.state(), entries::fresh_pitch());
+    let answer = entries::quantize(&SILENCE, &SILENCE, &SILENCE, 128, 0, 2);
+    assert_eq!((answer.number, answer.magnitude), (2, 2));
+}
+
+#[test]
+fn open_loop_lags_are_refused_by_3() {
+    for lag in [0, 19, 144, u16::MAX] {
+        assert_eq!(OpenLoopLag::try_new(lag), Err(refusal(3, lag.into())));
+    }
+    for lag in [20, 143] {
+        assert_eq!(OpenLoopLag::try_new(lag).map(OpenLoopLag::samples), Ok(lag));
+    }
+}
+
+#[test]
+fn subframes_out_of_turn_are_refused_by_4() {
+    let lags = [80, 80].map(|lag| OpenLoopLag::try_new(lag).expect("a lag"));
+    let mut searcher = Search::default();
+    let mut find = |subframe| {
+        let excitation = [0; EXCITATION_SAMPLES];
+        let found = searcher.search(&excitation, &SILENCE, &SILENCE, lags, subframe);
+        (found.map(|pitch| pitch.index), searcher.next)
+    };
+    assert_eq!(find(Subframe::Two), (Err(refusal(4, 1)), Subframe::One));
+    assert_eq!(find(Subframe::One), (Ok(189), Subframe::Two));
+    assert_eq!(find(Subframe::Two), (Ok(27), Subframe::Three));
+    assert_eq!(find(Subframe::Two), (Err(refusal(4, 3)), Subframe::Three));
+    let mut reader = LagReader::default();
+    assert_eq!(reader.read(Subframe::Four, 0), Err(refusal(4, 1)));
+    assert_eq!(reader, LagReader::default());
+}
+
+#[test]
+fn relative_indexes_are_refused_by_5() {
+    let previous = PitchLag::from_absolute(189);
+    assert_eq!(PitchLag::from_relative(32, previous), Err(refusal(5, 32)));
+    assert!(PitchLag::from_relative(31, previous).is_ok());
+}
+
+#[test]
+fn pulse_lags_are_refused_by_6() {
+    let find = |samples| {
+        let fraction = Fraction::Zero;
+        let lag = PitchLag { samples, fraction };
+        search(&SILENCE, &SILENCE, lag, SharpeningGain(0)).map(|found| found.pulse_positions)
+    };
+    for lag in [18, 145] {
+        assert_eq!(find(lag), Err(refusal(6, lag.into())));
+    }
+    for lag in [19, 40, 144] {
+        assert_eq!(find(lag), Ok(6));
+    }
+}
+
+#[test]
+fn powers_and_predictions_are_refused_by_7() {
+    assert_eq!(pow2(31, 32768), Err(refusal(7, 31)));
+    assert_eq!(pow2(30, 32768), Err(refusal(7, 32768)));
+    assert_eq!(pow2(14, 0), Ok(16384));
+    let choose = |exponent, fraction| {
+        let prediction = Prediction { exponent, fraction };
+        let limit = GainLimit::Unrestricted;
+        quantize(&SILENCE, &SILENCE, &SILENCE, prediction, limit).map(|row| row.index)
+    };
+    assert_eq!(choose(-129, 0), Err(refusal(7, -129)));
+    assert_eq!(choose(128, 32768), Err(refusal(7, 128)));
+    assert_eq!(choose(127, 32768), Err(refusal(7, 32768)));
+    assert_eq!(choose(0, 0), Ok(103));
+}
+
+#[test]
+fn pulse_words_are_refused_by_8() {
+    assert_eq!(Codebook::try_new(8192, 16), Err(refusal(8, 8192)));
+    assert_eq!(Codebook::try_new(8191, 16), Err(refusal(8, 16)));
+    assert!(Codebook::try_new(8191, 15).is_ok());
+}
+
+#[test]
+fn feeds_are_refused_by_9_and_10() {
+    let step = |feed: &[u8]| {
+        let fresh = entries::fresh_pitch();
+        let answer = entries::step(feed, 0, fresh, fresh, &mut [0; 143], &mut [0; 160]);
+        (answer.number, answer.magnitude, answer.line)
+    };
+    assert_eq!(step(&[7]), (9, 7, 0));
+    assert_eq!(step(&[1, 0, 0]), (10, 2, 0));
+    assert_eq!(step(&[0]), (0, 0, 0));
+    assert_eq!(step(&[]), (0, 0, entries::END));
+}
+
+#[test]
+fn refusals_say_what_is_wrong() {
+    for (number, detail, words) in [
+        (
+            1,
+            39,
+            "a list of length 39 is not as long as its stage needs",
+        ),
+        (3, 19, "open-loop lag 19 is outside 20 to 143"),
+        (4, 3, "subframe 3 is expected next"),
+        (7, -129, "exponent or fraction -129 is outside its range"),
+        (10, 2, "the feed ends after 2 bytes of a record's body"),
+    ] {
+        let said = refusal(number, detail).to_string();
+        assert_eq!(said, format!("MR74 refusal {number}: {words}"));
+    }
+}
