@@ -1,6 +1,6 @@
 //! Links the library.
 
-use std::{env, path::PathBuf};
+use std::{env, path::PathBuf, process::exit};
 
 fn main() {
     println!("cargo:rerun-if-env-changed=MR74_LIB");
@@ -11,11 +11,12 @@ fn main() {
     let archive = folder.join("libmr74.a");
     println!("cargo:rerun-if-changed={}", archive.display());
     if !archive.is_file() {
-        panic!(
-            "{} is missing: `rt staticlib mr74` builds it in the repository's root, or set \
+        eprintln!(
+            "{} is missing: `rt staticlib mr74` in the repository's root builds it, or set \
              MR74_LIB to a folder that has it",
             archive.display()
         );
+        exit(1);
     }
     println!("cargo:rustc-link-search=native={}", folder.display());
     println!("cargo:rustc-link-lib=static=mr74");
