@@ -168,7 +168,7 @@ fn searched(search: &mut Search, call: &calls::Call) -> Result<SearchedPitch, mr
     )
 }
 
-fn numbered(subframe: u8) -> Subframe {
+pub fn numbered(subframe: u8) -> Subframe {
     match subframe {
         1 => Subframe::One,
         2 => Subframe::Two,

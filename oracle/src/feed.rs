@@ -56,7 +56,7 @@ pub fn steps<S>(
 }
 
 /// The records, unless one has a bad kind or is incomplete.
-fn records(feed: &[u8]) -> Option<Vec<Record>> {
+pub fn records(feed: &[u8]) -> Option<Vec<Record>> {
     let mut records = Vec::new();
     let mut rest = feed;
     while let Some((&kind, after)) = rest.split_first() {

@@ -5,6 +5,7 @@
 //! and the detector have a state, so they are compared in chains of calls. Where a comparison is
 //! made of words that were drawn, the cases that it must meet are counted.
 
+mod bench;
 mod bindings;
 mod calls;
 mod cases;
@@ -44,7 +45,7 @@ use std::{
 };
 
 const USAGE: &str = "usage: oracle [compare NAME.. | bindings | select [RECORDS] | answers [FEED] | \
-                     feed NAME RECORDS [SEED] | record [FOLDER] | speed]";
+                     feed NAME RECORDS [SEED] | record [FOLDER] | speed | bench]";
 const RECORD_FOLDER: &str = concat!(env!("CARGO_MANIFEST_DIR"), "/../crates");
 const SAMPLE_FOLDER: &str = concat!(env!("CARGO_MANIFEST_DIR"), "/../samples");
 
@@ -73,12 +74,30 @@ fn main() -> ExitCode {
             speed::report();
             Ok(ExitCode::SUCCESS)
         }
+        ["bench"] => report_bench(),
+        // What the bench starts beside `select`.
+        ["rival-select"] => rival(bench::rival::select),
+        ["rival-lines"] => rival(bench::rival::lines),
         _ => Err(USAGE.to_string()),
     };
     done.unwrap_or_else(|message| {
         eprintln!("{message}");
         ExitCode::from(UNUSABLE)
     })
+}
+
+fn report_bench() -> Result<ExitCode, String> {
+    let slow = bench::report().map_err(|error| error.to_string())?;
+    println!("{slow} above 1");
+    Ok(match slow {
+        0 => ExitCode::SUCCESS,
+        _ => ExitCode::from(DIFFERENT),
+    })
+}
+
+fn rival(program: fn() -> io::Result<()>) -> Result<ExitCode, String> {
+    program().map_err(|error| error.to_string())?;
+    Ok(ExitCode::SUCCESS)
 }
 
 /// The records that `select` is compared on.

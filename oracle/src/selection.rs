@@ -12,16 +12,34 @@ pub mod record;
 mod stages;
 mod steps;
 
-pub use answers::printed;
-pub use compare::compare;
+pub use answers::{Answer, Answered, TITLE, filter_words, printed};
+pub use compare::{compare, program_path};
+pub use encoder::changed;
+pub use stages::{LagReader, Stages};
 
 use crate::feed::{self, Record};
-use feeds::{Feed, NAMES, Parts};
+use feeds::{Feed, Making, NAMES, Name, Parts};
 use std::io::{self, Write};
 
 /// The sample's records; none where there is no sample.
 pub fn sample() -> Vec<Record> {
     feed::steps("records", |record| Some(record.clone()), |_| true)
+}
+
+/// Records as an encoder hands them on, drawn.
+pub fn drawn_speech(records: u64) -> Vec<Record> {
+    let feed = Feed {
+        name: Name::Speech,
+        records,
+        seed: 0,
+    };
+    let mut making = Making::new(feed, &[]);
+    let mut records = Vec::new();
+    while let Some(made) = making.next() {
+        let (kind, body) = (made.bytes[0], made.bytes[1..].to_vec());
+        records.push(Record { kind, body });
+    }
+    records
 }
 
 /// Writes the feed of this name, of so many records.

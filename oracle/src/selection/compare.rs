@@ -10,7 +10,12 @@ use crate::{
     counts::Cases,
     feed::{Record, sample_bytes},
 };
-use std::{env, fmt::Display, ops::RangeInclusive, path::PathBuf};
+use std::{
+    env,
+    fmt::Display,
+    ops::RangeInclusive,
+    path::{Path, PathBuf},
+};
 
 const PROGRAM: &str = concat!(env!("CARGO_MANIFEST_DIR"), "/../target/bin/select");
 
@@ -58,12 +63,11 @@ impl Tally {
     /// Compares one feed. After a difference the rest of it is left aside.
     fn compare(
         &mut self,
-        index: u64,
-        name: &dyn Display,
+        program: &Path,
+        (index, name): (u64, &dyn Display),
         parts: impl Iterator<Item = Part> + Send,
     ) {
-        let program = program_path();
-        let outcome = program::run(&program, parts, |part| {
+        let outcome = program::run(program, parts, |part| {
             self.lines.compared += part.records();
             self.cases.add_counts(&part.cases);
         });
@@ -82,21 +86,23 @@ impl Tally {
     }
 }
 
-fn program_path() -> PathBuf {
+/// The program `select`.
+pub fn program_path() -> Result<PathBuf, String> {
     let path = env::var_os("MR74_SELECT").filter(|path| !path.is_empty());
-    path.map_or(PathBuf::from(PROGRAM), PathBuf::from)
+    let path = path.map_or(PathBuf::from(PROGRAM), PathBuf::from);
+    if !path.is_file() {
+        return Err(format!(
+            "{} is missing: `rt check select` builds it, or set MR74_SELECT to another",
+            path.display()
+        ));
+    }
+    Ok(path)
 }
 
 /// Compares at least so many records of feeds that are drawn, then truncated feeds, the sample and
 /// the empty feed.
 pub fn compare(records: u64, sample: &[Record]) -> Result<Vec<Line>, String> {
-    let program = program_path();
-    if !program.is_file() {
-        return Err(format!(
-            "{} is missing: `rt try select` builds it, or set MR74_SELECT to another",
-            program.display()
-        ));
-    }
+    let program = &program_path()?;
     let mut tally = Tally::new();
     let drawn = drawn(records);
     let truncated = truncated((records / ROUND_RECORDS).clamp(1, ROUNDS));
@@ -105,7 +111,7 @@ pub fn compare(records: u64, sample: &[Record]) -> Result<Vec<Line>, String> {
         let parts = in_threads(feeds.len() as u64, Tally::new, |tally, indexes| {
             for index in indexes {
                 let feed = feeds[index as usize];
-                tally.compare(index, &feed, Parts::new(feed, sample));
+                tally.compare(program, (index, &feed), Parts::new(feed, sample));
             }
         });
         for part in parts {
@@ -115,7 +121,7 @@ pub fn compare(records: u64, sample: &[Record]) -> Result<Vec<Line>, String> {
     let speech = sample_bytes();
     let given_feeds = [("the sample", speech.as_slice()), ("the empty feed", &[])];
     for (name, bytes) in given_feeds {
-        tally.compare(0, &name, [given(bytes)].into_iter());
+        tally.compare(program, (0, &name), [given(bytes)].into_iter());
     }
     eprintln!(
         "{} feeds of {FEED_RECORDS} records at most, {} truncated ones, {} filled ones",

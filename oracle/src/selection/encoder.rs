@@ -182,22 +182,9 @@ impl<'a> Encoder<'a> {
         else {
             return None;
         };
-        let mut record = self.sample[*place % self.sample.len()].clone();
+        let record = &self.sample[*place % self.sample.len()];
+        let mut record = changed(record, *loudness, *places);
         *place += 1;
-        let lists = match record.kind {
-            1 => 0..160,
-            2 => 1..1 + 2 * (EXCITATION + SUBFRAME),
-            3 => 0..2 * SUBFRAME,
-            4 => 0..4 * SUBFRAME,
-            5 => 0..100,
-            _ => 0..0,
-        };
-        let list = &mut record.body[lists];
-        let words = words(list).into_iter();
-        let words: Vec<i16> = words
-            .map(|word| word.saturating_mul(*loudness) >> *places)
-            .collect();
-        list.copy_from_slice(&bytes(&words));
         if record.kind == 2 {
             for (place, lag) in places::PITCH_LAGS.into_iter().zip(self.open_loop) {
                 record.body[place] = lag as u8;
@@ -275,6 +262,27 @@ impl Piece {
             bits,
         }
     }
+}
+
+/// A record whose signals, not its filters, are by so much louder, clipped, and shifted right by so
+/// many places.
+pub fn changed(record: &Record, loudness: i16, places: u32) -> Record {
+    let mut record = record.clone();
+    let lists = match record.kind {
+        1 => 0..160,
+        2 => 1..1 + 2 * (EXCITATION + SUBFRAME),
+        3 => 0..2 * SUBFRAME,
+        4 => 0..4 * SUBFRAME,
+        5 => 0..100,
+        _ => 0..0,
+    };
+    let list = &mut record.body[lists];
+    let words = words(list).into_iter();
+    let words: Vec<i16> = words
+        .map(|word| word.saturating_mul(loudness) >> places)
+        .collect();
+    list.copy_from_slice(&bytes(&words));
+    record
 }
 
 /// Whether these are the records of a frame.

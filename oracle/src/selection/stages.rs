@@ -33,13 +33,7 @@ impl Stages {
         Self {
             detector: Detector::default(),
             search: Search::default(),
-            reader: LagReader {
-                previous: PitchLag {
-                    samples: 40,
-                    fraction: Fraction::Zero,
-                },
-                next: 1,
-            },
+            reader: LagReader::fresh(),
         }
     }
 
@@ -69,7 +63,17 @@ impl Stages {
 }
 
 impl LagReader {
-    fn read(&mut self, subframe: u8, index: u8) -> Result<PitchLag, SignedRefusal> {
+    pub fn fresh() -> Self {
+        Self {
+            previous: PitchLag {
+                samples: 40,
+                fraction: Fraction::Zero,
+            },
+            next: 1,
+        }
+    }
+
+    pub fn read(&mut self, subframe: u8, index: u8) -> Result<PitchLag, SignedRefusal> {
         let lag = read(Reading {
             previous: self.previous,
             expected: self.next,

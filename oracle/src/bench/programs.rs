@@ -1,0 +1,134 @@
+//! The program `select`, with all that it reads and prints, and reading and printing alone.
+
+use super::{Feed, Row, best, rival::NO_SUBFRAME};
+use crate::{
+    feed::{BODIES, Record, bytes},
+    inputs::Random,
+    selection::program_path,
+    words::uniform,
+};
+use std::{
+    env,
+    fs::{self, File},
+    io,
+    path::{Path, PathBuf},
+    process::{self, Command, Stdio},
+    time::Instant,
+};
+
+const ROUNDS: usize = 7;
+
+/// A feed of a stage's records is repeated to so many bytes, and so many are read or printed.
+const STAGES: usize = 3_000_000;
+const ALONE: usize = 20_000_000;
+
+pub fn rows(feeds: &[Feed]) -> io::Result<Vec<Row>> {
+    let programs = Programs::new()?;
+    let mut rows = vec![Row {
+        name: "select".to_string(),
+        ratios: Vec::new(),
+    }];
+    for feed in feeds {
+        let records: Vec<u8> = feed.records.iter().flat_map(record).collect();
+        let feed = records.repeat(STAGES.div_ceil(records.len()));
+        rows[0].ratios.push(programs.ratio("rival-select", &feed)?);
+    }
+    for (name, feed) in alone() {
+        rows.push(Row {
+            name: name.to_string(),
+            ratios: vec![programs.ratio("rival-lines", &feed)?],
+        });
+    }
+    Ok(rows)
+}
+
+fn record(Record { kind, body }: &Record) -> Vec<u8> {
+    [&[*kind], body.as_slice()].concat()
+}
+
+/// Feeds on which hardly anything is computed.
+fn alone() -> [(&'static str, Vec<u8>); 4] {
+    let mut refused = vec![0; 1 + BODIES[2]];
+    refused[..2].copy_from_slice(&[2, NO_SUBFRAME]);
+    // A reset, and subframe one with index 189.
+    let reading = [0, 6, 1, 189];
+    const READING_LINES: usize = 32;
+    const RESET_LINE: usize = 14;
+    // Filters that let all through. Here the Rust leaves the filtering out, and `select` does not.
+    let one = [4096, 0, 0, 0, 0, 0, 0, 0, 0, 0, 0];
+    let random = &mut Random::at(0);
+    let speech = uniform::<50>(random).map(|word: i16| word >> 3);
+    let filtering = [&speech, &one[..], &one, &[0; 20]].concat();
+    let filtering = [vec![5], bytes(&filtering)].concat();
+    const FILTER_LINE: usize = 720;
+    [
+        (
+            "read 20 MB of refused searches",
+            refused.repeat(ALONE / refused.len()),
+        ),
+        (
+            "print 20 MB of readings",
+            reading.repeat(ALONE / READING_LINES),
+        ),
+        ("print 20 MB of resets", vec![0; ALONE / RESET_LINE]),
+        (
+            "print 20 MB of filtered words",
+            filtering.repeat(ALONE / FILTER_LINE),
+        ),
+    ]
+}
+
+/// The two programs, and where their feed is put.
+struct Programs {
+    select: PathBuf,
+    rivals: PathBuf,
+    feed: PathBuf,
+}
+
+impl Programs {
+    fn new() -> io::Result<Self> {
+        let feed = format!("mr74-bench-{}.feed", process::id());
+        Ok(Self {
+            select: program_path().map_err(io::Error::other)?,
+            rivals: env::current_exe()?,
+            feed: env::temp_dir().join(feed),
+        })
+    }
+
+    /// The ratio on a feed, for which both must print the same.
+    fn ratio(&self, rival: &str, feed: &[u8]) -> io::Result<f64> {
+        fs::write(&self.feed, feed)?;
+        let ours = || self.command(&self.select, &[]);
+        let other = || self.command(&self.rivals, &[rival]);
+        let printed = [ours()?.output()?, other()?.output()?];
+        if printed[0] != printed[1] {
+            let message = format!("select and {rival} print different lines");
+            return Err(io::Error::other(message));
+        }
+        let [ours, other] = best(ROUNDS, || time(ours()), || time(other()));
+        Ok(ours / other)
+    }
+
+    fn command(&self, program: &Path, words: &[&str]) -> io::Result<Command> {
+        let mut command = Command::new(program);
+        command.args(words).stdin(File::open(&self.feed)?);
+        Ok(command)
+    }
+}
+
+impl Drop for Programs {
+    fn drop(&mut self) {
+        // Where it can't be removed it stays.
+        let _ = fs::remove_file(&self.feed);
+    }
+}
+
+/// Seconds from start to end.
+fn time(command: io::Result<Command>) -> f64 {
+    let mut command = command.expect("the feed that was written");
+    command.stdout(Stdio::null());
+    let start = Instant::now();
+    let status = command.status().expect("a program that ran before");
+    assert!(status.success(), "{status}");
+    start.elapsed().as_secs_f64()
+}
