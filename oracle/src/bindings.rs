@@ -13,12 +13,13 @@ use crate::{
     },
     compare::{Function, Line, function, in_threads},
     filtering, gain,
-    inputs::{Argument, Inputs, Random, sample},
+    inputs::{Argument, Inputs, Random, every, sample},
     open_loop::{self, HALF_FRAME},
     published::{self, POWER_DOMAIN},
     pulses,
     reader::{Reading, read},
     search,
+    selection::first,
     subframes::{Refusal, number, subframe},
     words::{SUBFRAME, impulse_response, mixed},
 };
@@ -49,6 +50,12 @@ pub fn functions() -> Vec<Function> {
         }),
         function!("Codebook::try_new", pulse_words(), |(p, s)| told(mr74::codebook::Codebook::try_new(p, s)), {
             "codebook.rs" => told(read_pulses(p, s)),
+        }),
+        function!("OpenLoopLag", every::<u16>(), |n| told(lag(n)), {
+            "pitch/search.rs" => told(published_lag(n)),
+        }),
+        function!("record", calls(), |index| told(record(index)), {
+            "rule of 01" => told(expected_record(index)),
         }),
         function!("PitchLag", lag_indexes(), |(first, second)| told(lags(first, second)), {
             "pitch.rs" => told(published_lags(first, second)),
@@ -255,6 +262,43 @@ fn published_row(call: &gain::Call) -> Result<QuantizedRow, Refusal> {
         correction_q12,
         energy_q10,
     })
+}
+
+fn lag(samples: u16) -> Result<u16, mr74::Refusal> {
+    OpenLoopLag::try_new(samples).map(OpenLoopLag::samples)
+}
+
+fn published_lag(samples: u16) -> Result<u16, Refusal> {
+    let lag = pitch::search::OpenLoopLag::try_new(samples);
+    Ok(lag.map(pitch::search::OpenLoopLag::samples)?)
+}
+
+/// A feed that may have any kind and may be cut short, and a place that may lie behind it.
+fn feed_at(index: u64) -> (Vec<u8>, usize) {
+    let random = &mut Random::at(index);
+    let length = random.below(600);
+    let at = random.below(length + 3) as usize / 2;
+    let mut feed: Vec<u8> = (0..length).map(|_| random.word() as u8).collect();
+    if let Some(kind) = feed.get_mut(at) {
+        *kind %= 8;
+    }
+    (feed, at)
+}
+
+fn record(index: u64) -> Result<Option<(u8, Vec<u8>, usize)>, mr74::Refusal> {
+    let (feed, at) = feed_at(index);
+    let record = mr74::feed::record(&feed, at)?;
+    Ok(record.map(|record| (record.kind, record.body.to_vec(), record.next)))
+}
+
+fn expected_record(index: u64) -> Result<Option<(u8, Vec<u8>, usize)>, Refusal> {
+    let (feed, at) = feed_at(index);
+    let head = feed.get(at..).and_then(first).transpose();
+    let head = head.map_err(|refusal| Refusal {
+        number: refusal.number,
+        detail: refusal.detail as u64,
+    })?;
+    Ok(head.map(|head| (head.kind, head.body.to_vec(), feed.len() - head.rest.len())))
 }
 
 /// The lag of an absolute index, and that of a relative one after it.

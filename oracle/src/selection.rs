@@ -15,7 +15,7 @@ mod steps;
 pub use answers::{Answer, Answered, TITLE, filter_words, printed};
 pub use compare::{compare, program_path};
 pub use encoder::changed;
-pub use stages::{LagReader, Stages};
+pub use stages::{LagReader, Stages, first};
 
 use crate::feed::{self, Record};
 use feeds::{Feed, Making, NAMES, Name, Parts};

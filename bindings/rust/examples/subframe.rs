@@ -120,7 +120,7 @@ fn voiced() -> Result<(), Refusal> {
     let pulse = |at_pulse: bool| if at_pulse { 8000 } else { 0 };
     let mut state = State::default();
     let [_, lag] = [0, HALF_FRAME].map(|from| {
-        let samples = std::array::from_fn(|i| pulse((from + i) % PERIOD == 0));
+        let samples = std::array::from_fn(|i| pulse((from + i).is_multiple_of(PERIOD)));
         state.open_loop(&samples)
     });
 
@@ -130,7 +130,7 @@ fn voiced() -> Result<(), Refusal> {
     let mut sample = 0;
     let speech: [i16; INPUT_SAMPLES] = std::array::from_fn(|i| {
         sample = sample * 3 / 4 + pulse(i % PERIOD == 20);
-        sample as i16
+        sample
     });
     let prepared = prepare(&speech, &filter, &filter, &past, &past);
     let (target, impulse) = (prepared.target_q0, prepared.impulse_q12);
@@ -141,7 +141,7 @@ fn voiced() -> Result<(), Refusal> {
 
     let excitation = std::array::from_fn(|i| match i.checked_sub(PAST) {
         Some(i) => prepared.residual_q0[i],
-        None => pulse((PAST - i + 10) % PERIOD == 0) as i16,
+        None => pulse((PAST - i + 10).is_multiple_of(PERIOD)),
     });
     let found = state.pitch(&excitation, &target, &impulse, lag, Subframe::One)?;
 

@@ -62,6 +62,8 @@ answers! {
     }
     Logarithm { exponent: u8, fraction_q15: u16, }
     PowerAnswer { number: u8, negative: u8, magnitude: u64, value: i32, }
+    /// The record's kind, or `END`, and its body's first place in the feed and length.
+    RecordAnswer { number: u8, magnitude: u64, kind: u8, from: usize, length: usize, }
     /// The record's kind, or `END`, and the numbers of its line; then searcher and reader after it.
     StepAnswer {
         number: u8,
@@ -166,6 +168,8 @@ entries! {
     /// The detector's old words are lent, and updated there.
     fn open_loop as mr74_open_loop(samples_q0: &[i16], history_q0: &mut [i16]) -> OpenLoopAnswer;
 
+    fn open_loop_lag as mr74_open_loop_lag(samples: u16) -> OpenLoopAnswer;
+
     fn fresh_pitch as mr74_fresh_pitch() -> PitchState;
 
     fn pitch_search as mr74_pitch_search(
@@ -213,7 +217,10 @@ entries! {
         limit: u8
     ) -> GainAnswer;
 
-    /// The record at a place of a feed. The detector's words are lent and updated there, and the
+    /// The record at a place of a feed.
+    fn record as mr74_record(feed: &[u8], at: usize) -> RecordAnswer;
+
+    /// Runs the record at a place of a feed. The detector's words are lent and updated there, and the
     /// last list takes the 160 words of a filtering record, else zeros.
     fn step as mr74_step(
         feed: &[u8],

@@ -10,6 +10,7 @@ pub mod codebook;
 pub mod encoder_filtering;
 #[allow(unsafe_code)]
 pub mod entries;
+pub mod feed;
 pub mod gain;
 pub mod logarithm;
 pub mod pitch;

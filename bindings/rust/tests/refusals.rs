@@ -7,6 +7,7 @@ use mr74::{
         search::{SharpeningGain, search},
     },
     entries,
+    feed::record,
     gain::quantization::{GainLimit, Prediction, quantize},
     logarithm::pow2,
     pitch::{
@@ -119,14 +120,19 @@ fn pulse_words_are_refused_by_8() {
 
 #[test]
 fn feeds_are_refused_by_9_and_10() {
+    let kind = |feed: &[u8]| record(feed, 0).map(|record| record.map(|record| record.kind));
     let step = |feed: &[u8]| {
         let fresh = entries::fresh_pitch();
         let answer = entries::step(feed, 0, fresh, fresh, &mut [0; 143], &mut [0; 160]);
         (answer.number, answer.magnitude, answer.line)
     };
+    assert_eq!(kind(&[7]), Err(refusal(9, 7)));
     assert_eq!(step(&[7]), (9, 7, 0));
+    assert_eq!(kind(&[1, 0, 0]), Err(refusal(10, 2)));
     assert_eq!(step(&[1, 0, 0]), (10, 2, 0));
-    assert_eq!(step(&[0]), (0, 0, 0));
+    assert_eq!(kind(&[6, 1, 189]), Ok(Some(6)));
+    assert_eq!(step(&[6, 1, 189]), (0, 0, 6));
+    assert_eq!(kind(&[]), Ok(None));
     assert_eq!(step(&[]), (0, 0, entries::END));
 }
 

@@ -3,7 +3,6 @@
 use super::{PitchLag, kept, state};
 pub use crate::Refusal as SearchError;
 use crate::{SUBFRAME_SAMPLES, entries, refusal::sure};
-use std::ops::RangeInclusive;
 
 const HISTORY_SAMPLES: usize = 154;
 pub const EXCITATION_SAMPLES: usize = HISTORY_SAMPLES + SUBFRAME_SAMPLES;
@@ -42,17 +41,11 @@ impl Subframe {
 pub struct OpenLoopLag(pub(super) u16);
 
 impl OpenLoopLag {
-    const RANGE: RangeInclusive<u16> = 20..=143;
-
     /// Refuses by 3.
     pub fn try_new(samples: u16) -> Result<Self, SearchError> {
-        if Self::RANGE.contains(&samples) {
-            return Ok(Self(samples));
-        }
-        Err(SearchError {
-            number: 3,
-            detail: samples.into(),
-        })
+        let answer = entries::open_loop_lag(samples);
+        SearchError::check(answer.number, answer.magnitude)?;
+        Ok(Self(answer.lag))
     }
 
     pub fn samples(self) -> u16 {
