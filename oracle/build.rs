@@ -2,8 +2,11 @@
 //! linked by the Rust bindings.
 //!
 //! The published files are copied to the output folder as they stand, with the texts of
-//! `REPLACED` replaced so that private functions can be called and private fields read. Nothing of
-//! them is kept in this repository.
+//! `REPLACED` replaced so that private functions can be called and private fields read. A second copy
+//! is changed to call the Rust bindings. Nothing of them is kept in this repository but the few
+//! lines that `REPLACED`, `EXPRESSIONS` and adopted.rs name.
+
+mod adopted;
 
 use std::{
     env, fs,
@@ -15,6 +18,7 @@ const TAKEN: &[&str] = &[
     "adaptive.rs",
     "codebook.rs",
     "codebook/search.rs",
+    "encoder.rs",
     "encoder_filtering.rs",
     "encoder_stability.rs",
     "energy.rs",
@@ -49,15 +53,59 @@ impl SidParameters {
 }
 ",
     ),
-    // Empty tables: decoding a spectrum panics instead of giving a wrong answer.
+    // Tables of the oracle's own. Spectra decoded from them are not the codec's; the encoder before
+    // and after it calls the bindings is compared on the same ones.
     (
         "spectral/tables.rs",
-        "pub const FIRST: [[i16; 3]; 0] = [];
-pub const SECOND: [[i16; 3]; 0] = [];
-pub const THIRD: [[i16; 4]; 0] = [];
-pub const MEAN: [i16; 0] = [];
-pub const PREDICTOR: [i16; 0] = [];
+        "pub const FIRST: [[i16; 3]; 256] = drawn();
+pub const SECOND: [[i16; 3]; 512] = drawn();
+pub const THIRD: [[i16; 4]; 512] = drawn();
+pub const MEAN: [i16; 10] = [1384, 2077, 3420, 5108, 6742, 8122, 9863, 11092, 12714, 13701];
+pub const PREDICTOR: [i16; 10] = [9556, 10769, 12571, 13292, 14381, 11651, 10588, 9767, 8593, 6484];
 pub const SID_RESIDUAL: [[i16; 10]; 0] = [];
+const fn drawn<const N: usize, const M: usize>() -> [[i16; N]; M] {
+    let mut rows = [[0; N]; M];
+    let mut place = 0;
+    while place < N * M {
+        rows[place / N][place % N] = (place * 7919 % 1201) as i16 - 600;
+        place += 1;
+    }
+    rows
+}
+",
+    ),
+    // The analysis is not published: here the spectrum is drawn, and the samples are not delayed.
+    (
+        "encoder_analysis.rs",
+        "use super::{lpc, spectral::{self, ConversionError, LPC_ORDER}};
+#[derive(Debug, Clone, Default, PartialEq, Eq)]
+pub struct Analyzer(u64);
+pub struct Analyzed {
+    pub quantized: Quantized,
+    pub lsp_q15: [i16; LPC_ORDER],
+    pub coefficients_q12: [i16; LPC_ORDER + 1],
+    pub samples_q0: [i16; 160],
+}
+pub struct Quantized {
+    pub indices: [u16; 3],
+}
+impl Analyzer {
+    pub fn push(&mut self, samples: &[i16; 160]) -> Result<Analyzed, ConversionError> {
+        let mut drawn = |below: u64| {
+            self.0 = self.0.wrapping_mul(6364136223846793005).wrapping_add(1442695040888963407);
+            (self.0 >> 33) % below
+        };
+        let indices = [256, 512, 512].map(|below| drawn(below) as u16);
+        let frequencies = spectral::INITIAL_LSF_Q15.map(|lsf| lsf + drawn(600) as i16);
+        let lsp_q15 = spectral::lsf_to_lsp(&frequencies)?;
+        Ok(Analyzed {
+            quantized: Quantized { indices },
+            lsp_q15,
+            coefficients_q12: lpc::convert(&lsp_q15),
+            samples_q0: *samples,
+        })
+    }
+}
 ",
     ),
 ];
@@ -267,7 +315,21 @@ fn compile_published(oracle: &Path, output: &Path) {
         );
     }
 
-    let to = output.join("codec");
+    let mut published = copied(&from, &output.join("codec"), replace);
+    for expression in EXPRESSIONS {
+        let text = read(&from.join("mr74").join(expression.file));
+        published.push_str(&function(expression, &text));
+    }
+    write(&output.join("published.rs"), &published);
+
+    let adopted = copied(&from, &output.join("adopted"), |file, text| {
+        adopted::changed(file, text).replace("crate::codec", "crate::adopted::codec")
+    });
+    write(&output.join("adopted.rs"), &adopted);
+}
+
+/// Copies the published files, each edited, and gives the declaration of the module that they are.
+fn copied(from: &Path, to: &Path, edited: impl Fn(&str, String) -> String) -> String {
     write(&to.join("mod.rs"), "pub mod mr74;\n");
     let root = read(&from.join("mr74.rs"));
     write(&to.join("mr74.rs"), &root);
@@ -279,9 +341,8 @@ fn compile_published(oracle: &Path, output: &Path) {
         let text = if TAKEN.contains(&file.as_str()) {
             let text = read(&from.join("mr74").join(&file));
             waiting.extend(declared_modules(&text, file.trim_end_matches(".rs")));
-            let replaced = replace(&file, text);
             found.push(file.clone());
-            replaced
+            edited(&file, text)
         } else {
             STAND_INS
                 .iter()
@@ -297,17 +358,12 @@ fn compile_published(oracle: &Path, output: &Path) {
     }
 
     // The path attribute needs the full path, which only this script knows.
-    let mut published = format!(
+    format!(
         "#[allow(warnings, clippy::all)]\n\
          #[path = {:?}]\n\
          pub mod codec;\n",
         to.join("mod.rs")
-    );
-    for expression in EXPRESSIONS {
-        let text = read(&from.join("mr74").join(expression.file));
-        published.push_str(&function(expression, &text));
-    }
-    write(&output.join("published.rs"), &published);
+    )
 }
 
 /// The files of the modules that a file declares, except its tests. `folder` is where the file's

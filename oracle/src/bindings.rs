@@ -3,6 +3,7 @@
 //! fields count too.
 
 use crate::{
+    adopted,
     calls::{self, Step},
     chains::Chain,
     codec::mr74::{
@@ -63,6 +64,7 @@ pub fn functions() -> Vec<Function> {
     ];
     functions.extend(lists());
     functions.extend(chains());
+    functions.extend(adopted::functions());
     functions
 }
 
@@ -106,7 +108,7 @@ fn chains() -> [Function; 3] {
     ]
 }
 
-fn told(value: impl Debug) -> String {
+pub fn told(value: impl Debug) -> String {
     format!("{value:?}")
 }
 
@@ -319,9 +321,9 @@ fn published_lags(first: u8, second: u8) -> [Result<PitchLag, Refusal>; 2] {
 // ---- Chains of calls, where each side goes on from its own state.
 
 /// What each side answers and then keeps, step by step.
-type Told = [String; 2];
+pub type Told = [String; 2];
 
-fn compare_chains(with: &'static str, chain: fn(u64) -> Vec<Told>) -> Vec<Line> {
+pub fn compare_chains(with: &'static str, chain: fn(u64) -> Vec<Told>) -> Vec<Line> {
     let mut line = Line::new(with);
     let parts = in_threads(
         CHAINS,

@@ -5,6 +5,7 @@
 //! and the detector have a state, so they are compared in chains of calls. Where a comparison is
 //! made of words that were drawn, the cases that it must meet are counted.
 
+mod adopted;
 mod bench;
 mod bindings;
 mod calls;

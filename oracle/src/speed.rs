@@ -127,7 +127,7 @@ fn report_operators() {
         |v| leaf_inverse_sqrt(v),
         inverse_sqrt,
     );
-    ratio::<i32, _, _>("log2", |_| true, |v| log2(v), logarithm::log2);
+    ratio::<i32, _, _>("log2", |_| true, log2, logarithm::log2);
     ratio::<(u8, u16), _, _>(
         "pow2",
         |(e, f)| e <= 30 && f <= 32767,

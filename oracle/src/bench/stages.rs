@@ -17,8 +17,11 @@ const ROUNDS: usize = 25;
 /// The least time of a round, in seconds.
 const ROUND: f64 = 0.001;
 
+/// The time of a stage on a feed's calls, as a ratio.
+type Ratio = fn(&Calls) -> f64;
+
 pub fn rows(feeds: &[Feed]) -> Vec<Row> {
-    let stages: [(&str, fn(&Calls) -> f64); 10] = [
+    let stages: [(&str, Ratio); 10] = [
         ("open loop", Calls::open_loop),
         ("pitch", Calls::pitch),
         ("pulses", Calls::pulses),
@@ -31,7 +34,7 @@ pub fn rows(feeds: &[Feed]) -> Vec<Row> {
         ("pulse reader", Calls::pulse_reader),
     ];
     let calls: Vec<_> = feeds.iter().map(|feed| Calls::of(&feed.records)).collect();
-    let row = |(name, ratio): (&str, fn(&Calls) -> f64)| Row {
+    let row = |(name, ratio): (&str, Ratio)| Row {
         name: name.to_string(),
         ratios: calls.iter().map(ratio).collect(),
     };
