@@ -91,6 +91,24 @@ macro_rules! plain {
     };
 }
 
+/// The same of stages that keep something, which a reset makes fresh.
+macro_rules! kept {
+    ($calls:expr, |$state:ident, $call:ident| $($fresh:path => $answer:expr),+ $(,)?) => {
+        ratio(
+            $calls,
+            $(Side {
+                fresh: $fresh,
+                call: |$state, Kept { reset, call: $call }| {
+                    if *reset {
+                        *$state = $fresh();
+                    }
+                    $answer
+                },
+            }),+
+        )
+    };
+}
+
 /// A call, and whether a reset comes before it.
 struct Kept<C> {
     reset: bool,
@@ -174,62 +192,20 @@ impl Calls {
     }
 
     fn open_loop(&self) -> f64 {
-        ratio(
-            &self.halves,
-            Side {
-                fresh: mr74::pitch::open_loop::Detector::default,
-                call: |detector, half| {
-                    if half.reset {
-                        detector.reset();
-                    }
-                    detector.push(&half.call)
-                },
-            },
-            Side {
-                fresh: pitch::open_loop::Detector::default,
-                call: |detector, half| {
-                    if half.reset {
-                        detector.reset();
-                    }
-                    detector.push(&half.call)
-                },
-            },
+        kept!(&self.halves, |detector, half|
+            mr74::pitch::open_loop::Detector::default => detector.push(half),
+            pitch::open_loop::Detector::default => detector.push(half),
         )
     }
 
     fn pitch(&self) -> f64 {
-        ratio(
-            &self.pitches,
-            Side {
-                fresh: mr74::pitch::search::Search::default,
-                call: |searcher, Kept { reset, call }| {
-                    if *reset {
-                        searcher.reset();
-                    }
-                    searcher.search(
-                        &call.excitation,
-                        &call.target,
-                        &call.impulse,
-                        call.ours,
-                        call.subframe,
-                    )
-                },
-            },
-            Side {
-                fresh: pitch::search::Search::default,
-                call: |searcher, Kept { reset, call }| {
-                    if *reset {
-                        searcher.reset();
-                    }
-                    searcher.search(
-                        &call.excitation,
-                        &call.target,
-                        &call.impulse,
-                        call.other,
-                        call.published,
-                    )
-                },
-            },
+        kept!(&self.pitches, |searcher, call|
+            mr74::pitch::search::Search::default => searcher.search(
+                &call.excitation, &call.target, &call.impulse, call.ours, call.subframe,
+            ),
+            pitch::search::Search::default => searcher.search(
+                &call.excitation, &call.target, &call.impulse, call.other, call.published,
+            ),
         )
     }
 
@@ -284,26 +260,11 @@ impl Calls {
 
     /// The Rust has no reader of subframes: the other side is 01's rule over its two readings.
     fn lag_reader(&self) -> f64 {
-        ratio(
-            &self.readings,
-            Side {
-                fresh: mr74::pitch::LagReader::default,
-                call: |reader, Kept { reset, call }| {
-                    if *reset {
-                        reader.reset();
-                    }
-                    reader.read(bindings::numbered(call[0]), call[1])
-                },
+        kept!(&self.readings, |reader, sent|
+            mr74::pitch::LagReader::default => {
+                reader.read(bindings::numbered(sent[0]), sent[1])
             },
-            Side {
-                fresh: LagReader::fresh,
-                call: |reader, Kept { reset, call }| {
-                    if *reset {
-                        *reader = LagReader::fresh();
-                    }
-                    reader.read(call[0], call[1])
-                },
-            },
+            LagReader::fresh => reader.read(sent[0], sent[1]),
         )
     }
 
