@@ -3,6 +3,11 @@
 use std::{env, path::PathBuf, process::exit};
 
 fn main() {
+    let target = ["CARGO_CFG_TARGET_ARCH", "CARGO_CFG_TARGET_OS"].map(env::var);
+    if target != [Ok("x86_64".to_string()), Ok("linux".to_string())] {
+        eprintln!("the archive links only into programs for x86-64 Linux");
+        exit(1);
+    }
     println!("cargo:rerun-if-env-changed=MR74_LIB");
     let folder = match env::var_os("MR74_LIB").filter(|folder| !folder.is_empty()) {
         Some(folder) => PathBuf::from(folder),

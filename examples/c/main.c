@@ -105,6 +105,8 @@ static void silence(void)
     gain_row(zeros, zeros, zeros, MR74_UNRESTRICTED);
     gain_row(zeros, zeros, zeros, MR74_RESONANCE);
     gain_row(zeros, zeros, zeros, 2);
+    mr74_open_loop_answer bad = mr74_open_loop_lag(144);
+    refused(bad.number, false, bad.magnitude);
 }
 
 /* A pulse every 57 samples, and a filter with one pole. */
@@ -140,6 +142,8 @@ static void voiced(void)
         return;
     }
     printf("filter %d %d %d %d\n", residual[10], impulse[1], target[10], error[10]);
+    mr74_residual(filter, MR74_COEFFICIENTS, speech, MR74_SPEECH, residual, MR74_SUBFRAME);
+    printf("residual %d %d\n", residual[10], residual[11]);
 
     for (int i = 0; i < PAST; i++)
         excitation[i] = (PAST - i + 10) % PERIOD == 0 ? 8000 : 0;

@@ -7,7 +7,7 @@ use mr74::{
         Codebook,
         search::{SharpeningGain, search},
     },
-    encoder_filtering::{COEFFICIENTS, INPUT_SAMPLES, LPC_ORDER, prepare},
+    encoder_filtering::{COEFFICIENTS, INPUT_SAMPLES, LPC_ORDER, prepare, residual},
     entries,
     gain::quantization::{GainLimit, Prediction, pitch_gain, quantize},
     logarithm::{log2, pow2},
@@ -111,6 +111,9 @@ fn silence() -> Result<(), Refusal> {
     // The type has no third limit, so the library's own function is asked.
     let refused = entries::quantize(&zeros, &zeros, &zeros, 0, 0, 2);
     println!("refused {} {}", refused.number, refused.magnitude);
+    if let Err(Refusal { number, detail }) = OpenLoopLag::try_new(144) {
+        println!("refused {number} {detail}");
+    }
     Ok(())
 }
 
@@ -139,8 +142,11 @@ fn voiced() -> Result<(), Refusal> {
         prepared.residual_q0[10], impulse[1], target[10], prepared.error_q0[10]
     );
 
+    let residual = residual(&filter, &speech);
+    println!("residual {} {}", residual[10], residual[11]);
+
     let excitation = std::array::from_fn(|i| match i.checked_sub(PAST) {
-        Some(i) => prepared.residual_q0[i],
+        Some(i) => residual[i],
         None => pulse((PAST - i + 10).is_multiple_of(PERIOD)),
     });
     let found = state.pitch(&excitation, &target, &impulse, lag, Subframe::One)?;
