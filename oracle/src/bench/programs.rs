@@ -5,7 +5,7 @@ use crate::{
     feed::{BODIES, Record, bytes},
     inputs::Random,
     selection::program_path,
-    words::uniform,
+    words::quiet,
 };
 use std::{
     env,
@@ -48,32 +48,28 @@ fn record(Record { kind, body }: &Record) -> Vec<u8> {
 
 /// Feeds on which hardly anything is computed.
 fn alone() -> [(&'static str, Vec<u8>); 4] {
+    // About as many bytes are printed: a reset and a reading, a reset, a filtering.
+    const READING: usize = 32;
+    const RESET: usize = 14;
+    const FILTERED: usize = 720;
     let mut refused = vec![0; 1 + BODIES[2]];
     refused[..2].copy_from_slice(&[2, NO_SUBFRAME]);
     // A reset, and subframe one with index 189.
     let reading = [0, 6, 1, 189];
-    const READING_LINES: usize = 32;
-    const RESET_LINE: usize = 14;
     // Filters that let all through. Here the Rust leaves the filtering out, and `select` does not.
     let one = [4096, 0, 0, 0, 0, 0, 0, 0, 0, 0, 0];
-    let random = &mut Random::at(0);
-    let speech = uniform::<50>(random).map(|word: i16| word >> 3);
+    let speech = quiet::<50>(&mut Random::at(0), 3);
     let filtering = [&speech, &one[..], &one, &[0; 20]].concat();
     let filtering = [vec![5], bytes(&filtering)].concat();
-    const FILTER_LINE: usize = 720;
+    let times = [refused.len(), READING, RESET, FILTERED].map(|bytes| ALONE / bytes);
+    let [searches, readings, resets, filterings] = times;
     [
-        (
-            "read 20 MB of refused searches",
-            refused.repeat(ALONE / refused.len()),
-        ),
-        (
-            "print 20 MB of readings",
-            reading.repeat(ALONE / READING_LINES),
-        ),
-        ("print 20 MB of resets", vec![0; ALONE / RESET_LINE]),
+        ("read 20 MB of refused searches", refused.repeat(searches)),
+        ("print 20 MB of readings", reading.repeat(readings)),
+        ("print 20 MB of resets", vec![0; resets]),
         (
             "print 20 MB of filtered words",
-            filtering.repeat(ALONE / FILTER_LINE),
+            filtering.repeat(filterings),
         ),
     ]
 }
