@@ -46,12 +46,15 @@ pub fn functions() -> Vec<Function> {
         function!("log2", sample::<i32>(NUMBERS), |v| told(mr74::logarithm::log2(v)), {
             "logarithm.rs" => told(logarithm::log2(v)),
         }),
-        function!("pow2", sample::<(u8, u16)>(NUMBERS), |(e, f)| told(mr74::logarithm::pow2(e, f)), {
+        function!("pow2", sample(NUMBERS), |(e, f)| told(mr74::logarithm::pow2(e, f)), {
             "logarithm.rs" => told(power(e, f)),
         }),
-        function!("Codebook::try_new", pulse_words(), |(p, s)| told(mr74::codebook::Codebook::try_new(p, s)), {
-            "codebook.rs" => told(read_pulses(p, s)),
-        }),
+        function!(
+            "Codebook::try_new",
+            pulse_words(),
+            |(positions, signs)| told(mr74::codebook::Codebook::try_new(positions, signs)),
+            { "codebook.rs" => told(read_pulses(positions, signs)) }
+        ),
         function!("OpenLoopLag", every::<u16>(), |n| told(lag(n)), {
             "pitch/search.rs" => told(published_lag(n)),
         }),
