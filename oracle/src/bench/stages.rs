@@ -21,7 +21,7 @@ const ROUND: f64 = 0.001;
 type Ratio = fn(&Calls) -> f64;
 
 pub fn rows(feeds: &[Feed]) -> Vec<Row> {
-    let stages: [(&str, Ratio); 10] = [
+    let stages: [(&str, Ratio); 8] = [
         ("open loop", Calls::open_loop),
         ("pitch", Calls::pitch),
         ("pulses", Calls::pulses),
@@ -30,15 +30,16 @@ pub fn rows(feeds: &[Feed]) -> Vec<Row> {
         ("residual", Calls::residual),
         ("convolve", Calls::convolve),
         ("pitch gain", Calls::pitch_gain),
+    ];
+    let readers: [(&str, Ratio); 2] = [
         ("lag reader", Calls::lag_reader),
         ("pulse reader", Calls::pulse_reader),
     ];
     let calls: Vec<_> = feeds.iter().map(|feed| Calls::of(&feed.records)).collect();
-    let row = |(name, ratio): (&str, Ratio)| Row {
-        name: name.to_string(),
-        ratios: calls.iter().map(ratio).collect(),
-    };
-    stages.map(row).into()
+    let ratios = |ratio: Ratio| calls.iter().map(ratio).collect();
+    let held = stages.map(|(name, ratio)| Row::held(name, ratios(ratio)));
+    let shown = readers.map(|(name, ratio)| Row::shown(name, ratios(ratio)));
+    held.into_iter().chain(shown).collect()
 }
 
 /// One side: what it keeps at first, and what it does with a call.
