@@ -1,3 +1,4 @@
 -- The laws that belong to no one function.
 pub mod Filling
 pub mod Entries
+pub mod Sliding

@@ -1,7 +1,10 @@
 // The impulse's correlations with the signs, TS 26.073 cor_h, from codebook/search.rs.
 ghost use mathlib.Core.Path.{_≡_};
-ghost use Prim.Native.Nat.{_<_};
-ghost use Rattle.fixed.specs.Lists.{at};
+ghost use Prim.Native.Nat.{ℕ, _+_, _-_, _<_};
+ghost use lib.IntN.{pos, natAbs, _*ℤ_};
+ghost use Rattle.fixed.specs.Operators.{mult, round};
+ghost use Rattle.fixed.specs.Lists.{at, tabulate};
+ghost use Rattle.fixed.proofs.Quiet.{squared};
 ghost use Rattle.codebook_matrix.specs.Matrices.{energy, gain-of, scaled-by, normalised, signed, correlations, cor-h};
 
 const SUBFRAME_SAMPLES: usize = 40;
@@ -13,6 +16,9 @@ const INVERSE_SCALE_SHIFT: i16 = 7;
 const IMPULSE_SCALE_SHIFT: i16 = 9;
 
 const IMPULSE_HEADROOM_Q15: i16 = 32440;
+
+// Twice 2^30 - 2^14.
+const ROOM: i32 = 2147450880;
 
 pub fn impulse_correlation(impulse: &[i16; 40], signs: &[i16; 40]) -> [[i16; 40]; 40]
     ensures { λ r. ⌜ r ≡ cor-h (now (impulse .entry)) (now (signs .entry)) ⌝ }
@@ -61,8 +67,79 @@ fn scaled(impulse: &[i16; 40], gain: i16) -> [i16; 40]
     words
 }
 
-// From the last row up. The sums of all distances grow side by side, each in its own order; a row's values are stored at both of their places.
+// Where the energy leaves room for the rounding too, no sum of products is clipped: 2 |a b| is at most a² + b².
 fn correlations(normalized: &[i16; 40], signs: &[i16; 40]) -> [[i16; 40]; 40]
+    ensures { λ r. ⌜ r ≡ correlations (now (normalized .entry)) (now (signs .entry)) ⌝ }
+{
+    if fixed::energy40(normalized) < ROOM {
+        return plain_correlations(normalized, signs);
+    }
+    clipped_correlations(normalized, signs)
+}
+
+// From the last row up, every row whole. Sum 39 - d is that of distance d, sum 39 + d the same one d terms behind: what stands at (i, j) and at (j, i).
+fn plain_correlations(normalized: &[i16; 40], signs: &[i16; 40]) -> [[i16; 40]; 40]
+    requires { ⌜ squared (at (now normalized)) 40 < 1073725440 ⌝ }
+    ensures { λ r. ⌜ r ≡ correlations (now (normalized .entry)) (now (signs .entry)) ⌝ }
+{
+    let reversed = reversed(normalized);
+    let row = [0i16; 40];
+    let mut table = [row; 40];
+    let mut sums = [0i32; 80];
+    for k in 0..40 {
+        let word = normalized[k];
+        for i in 0..40 {
+            sums[k + i] = sums[k + i] + fixed::exact(word, reversed[i]);
+        }
+        let values = rounded(&sums, k);
+        table[39 - k] = signed_row(&values, signs, signs[39 - k]);
+        table[39 - k][39 - k] = values[39 - k];
+    }
+    table
+}
+
+fn reversed(words: &[i16; 40]) -> [i16; 40]
+    ensures { λ r. ⌜ r ≡ tabulate (λ i. at (now (words .entry)) (39 - i)) 40 ⌝ }
+{
+    let mut list = [0i16; 40];
+    for i in 0..40 {
+        list[i] = words[39 - i];
+    }
+    list
+}
+
+// 40 sums from a place on, each half of a long.
+fn rounded(sums: &[i32; 80], from: usize) -> [i16; 40]
+    requires { ⌜ (from < 40) × ((i : ℕ) → i < 40 → natAbs (at (now sums) (from + i)) < 1073725440) ⌝ }
+    ensures { λ r. ⌜ r ≡ tabulate (λ i. round (pos 2 *ℤ at (now (sums .entry)) (from + i))) 40 ⌝ }
+{
+    let mut words = [0i16; 40];
+    for i in 0..40 {
+        words[i] = rounded_double(sums[from + i]);
+    }
+    words
+}
+
+fn rounded_double(sum: i32) -> i16
+    requires { ⌜ natAbs sum < 1073725440 ⌝ }
+    ensures { λ r. ⌜ r ≡ round (pos 2 *ℤ sum) ⌝ }
+{
+    ((2 * sum + 32768) >> 16) as i16
+}
+
+// The products of a row by the signs, also where a place meets itself.
+fn signed_row(values: &[i16; 40], signs: &[i16; 40], sign: i16) -> [i16; 40]
+    ensures { λ r. ⌜ r ≡ tabulate (λ i. mult (at (now (values .entry)) i) (mult (at (now (signs .entry)) i) sign)) 40 ⌝ }
+{
+    let mut row = [0i16; 40];
+    for i in 0..40 {
+        row[i] = fixed::fractional(values[i], fixed::fractional(signs[i], sign));
+    }
+    row
+}
+
+// From the last row up. The sums of all distances grow side by side, each in its own order; a row's values are stored at both of their places.
+fn clipped_correlations(normalized: &[i16; 40], signs: &[i16; 40]) -> [[i16; 40]; 40]
     ensures { λ r. ⌜ r ≡ correlations (now (normalized .entry)) (now (signs .entry)) ⌝ }
 {
     let row = [0i16; 40];

@@ -1,0 +1,97 @@
+use mathlib.Core.Path.{_≡_, refl, _∙_}
+use Prim.Native.Nat.{ℕ, _-_}
+use native.Mathlib.Omega.{arith}
+use borrow.Author.Needs.{needs}
+use lib.IntN.{ℤ}
+use mir.Syntax.{w16}
+use mir.Val.{toZ, ofZ}
+use mir.Facts.{toZ-ofZ}
+use Rattle.fixed.specs.Operators.{mult}
+use Rattle.fixed.specs.Lists.{at}
+use Rattle.fixed.proofs.Bounds.{got}
+use Rattle.fixed.proofs.Lists.{Filling, filling-more, filling-all}
+use Rattle.codebook_matrix.proofs.signed_row.Statement.{statement}
+use Rattle.codebook_matrix.proofs.signed_row.Tie as tie
+
+abbrev Inv-loop : tie.InvT-loop
+Inv-loop values signs sign row₀ i₀ row i = Filling (λ k. mult (at values k) (mult (at signs k) (toZ w16 sign))) 40 i row
+
+abbrev μ-loop : tie.MeasureT-loop
+μ-loop values signs sign row₀ i₀ row i = 40 - i
+
+loop-holds : tie.Need-loop-holds Inv-loop μ-loop
+loop-holds c = (omega arith, refl, λ k l. absurd (omega arith))
+
+mul-fractional : tie.Need-mul-fractional Inv-loop μ-loop
+mul-fractional c = search needs
+
+element-copy-out-fractional : tie.Need-element-copy-out-fractional Inv-loop μ-loop
+element-copy-out-fractional c = search needs
+
+mul-fractional-2 : tie.Need-mul-fractional-2 Inv-loop μ-loop
+mul-fractional-2 c = search needs
+
+element-copy-out-fractional-2 : tie.Need-element-copy-out-fractional-2 Inv-loop μ-loop
+element-copy-out-fractional-2 c = search needs
+
+fractional-requires : tie.Need-fractional-requires Inv-loop μ-loop
+fractional-requires c κs = tt
+
+fractional-requires-2 : tie.Need-fractional-requires-2 Inv-loop μ-loop
+fractional-requires-2 c κs = tt
+
+mul-row : tie.Need-mul-row Inv-loop μ-loop
+mul-row c = search needs
+
+array-set-from-row : tie.Need-array-set-from-row Inv-loop μ-loop
+array-set-from-row c = search needs
+
+add-i : tie.Need-add-i Inv-loop μ-loop
+add-i c = search needs
+
+loop-less : tie.Need-loop-less Inv-loop μ-loop
+loop-less c = search needs
+
+loop-again : tie.Need-loop-again Inv-loop μ-loop
+loop-again c =
+    let b = c .before in
+    let y = b .before in
+    let x = y .before in
+    let s = x .before .before in
+    let a = s .before .args in
+    let sign : ℤ = toZ w16 (ofZ w16 (a .sign)) in
+    let i = s .loop .i in
+    let f : ℕ → ℤ = λ k. mult (at (a .values .now) k) (mult (at (a .signs .now) k) sign) in
+    let v : ℤ = toZ w16 (ofZ w16 (c .fractional2 .result)) in
+    let p : toZ w16 (ofZ w16 (at (a .values .now) i)) ≡ at (a .values .now) i = got w16 (x .fractional-arg .given) refl in
+    let q : toZ w16 (ofZ w16 (at (a .signs .now) i)) ≡ at (a .signs .now) i = got w16 (y .fractional-arg2 .given) refl in
+    let e : v ≡ f i = rw (got w16 (c .fractional2 .ok) (c .fractional2 .ensures), got w16 (b .fractional .ok) (b .fractional .ensures), p, q) in
+    filling-more f 40 i (s .loop .row) v (omega arith) e (s .loop .inv)
+
+returns : tie.Need-returns Inv-loop μ-loop
+returns c =
+    let s = c .before in
+    let b = s .before in
+    let a = b .args in
+    filling-all (λ k. mult (at (a .values .now) k) (mult (at (a .signs .now) k) (toZ w16 (ofZ w16 (a .sign))))) 40 (s .loop .i) (s .loop .row) (omega arith) (s .loop .inv)
+    ∙ rw (toZ-ofZ (b .fits .sign))
+
+pub signed-row-spec : {M : Type 1} → statement M
+signed-row-spec =
+    tie.close
+    (tie.spec
+    Inv-loop
+    μ-loop
+    loop-holds
+    mul-fractional
+    element-copy-out-fractional
+    mul-fractional-2
+    element-copy-out-fractional-2
+    fractional-requires
+    fractional-requires-2
+    mul-row
+    array-set-from-row
+    add-i
+    loop-less
+    loop-again
+    returns)
