@@ -2,3 +2,4 @@
 pub mod Filling
 pub mod Entries
 pub mod Sliding
+pub mod Crossing

@@ -1,7 +1,8 @@
 // The impulse's correlations with the signs, TS 26.073 cor_h, from codebook/search.rs.
 ghost use mathlib.Core.Path.{_≡_};
+ghost use mathlib.Core.Bool.{true};
 ghost use Prim.Native.Nat.{ℕ, _+_, _-_, _<_};
-ghost use lib.IntN.{pos, natAbs, _*ℤ_};
+ghost use lib.IntN.{pos, negsuc, natAbs, _*ℤ_};
 ghost use Rattle.fixed.specs.Operators.{mult, round};
 ghost use Rattle.fixed.specs.Lists.{at, tabulate};
 ghost use Rattle.fixed.proofs.Quiet.{squared};
@@ -67,11 +68,11 @@ fn scaled(impulse: &[i16; 40], gain: i16) -> [i16; 40]
     words
 }
 
-// Where the energy leaves room for the rounding too, no sum of products is clipped: 2 |a b| is at most a² + b².
+// Where the energy leaves room for the rounding too, no sum of products is clipped: 2 |a b| is at most a² + b². The signs of a search are all 32767 or -32767.
 fn correlations(normalized: &[i16; 40], signs: &[i16; 40]) -> [[i16; 40]; 40]
     ensures { λ r. ⌜ r ≡ correlations (now (normalized .entry)) (now (signs .entry)) ⌝ }
 {
-    if fixed::energy40(normalized) < ROOM {
+    if all_full(signs) & (fixed::energy40(normalized) < ROOM) {
         return plain_correlations(normalized, signs);
     }
     clipped_correlations(normalized, signs)
@@ -79,7 +80,7 @@ fn correlations(normalized: &[i16; 40], signs: &[i16; 40]) -> [[i16; 40]; 40]
 
 // From the last row up, every row whole. Sum 39 - d is that of distance d, sum 39 + d the same one d terms behind: what stands at (i, j) and at (j, i).
 fn plain_correlations(normalized: &[i16; 40], signs: &[i16; 40]) -> [[i16; 40]; 40]
-    requires { ⌜ squared (at (now normalized)) 40 < 1073725440 ⌝ }
+    requires { ⌜ (squared (at (now normalized)) 40 < 1073725440) × ((i : ℕ) → i < 40 → natAbs (at (now signs) i) ≡ 32767) ⌝ }
     ensures { λ r. ⌜ r ≡ correlations (now (normalized .entry)) (now (signs .entry)) ⌝ }
 {
     let reversed = reversed(normalized);
@@ -127,15 +128,55 @@ fn rounded_double(sum: i32) -> i16
     ((2 * sum + 32768) >> 16) as i16
 }
 
+fn all_full(signs: &[i16; 40]) -> bool
+    ensures { λ r. ⌜ (r ≡ true → (i : ℕ) → i < 40 → natAbs (at (now (signs .entry)) i) ≡ 32767) ⌝ }
+{
+    let mut all = true;
+    for i in 0..40 {
+        all = all & is_full(signs[i]);
+    }
+    all
+}
+
+fn is_full(sign: i16) -> bool
+    ensures { λ r. ⌜ (r ≡ true → natAbs sign ≡ 32767) ⌝ }
+{
+    fixed::unsigned_abs(sign as i32) == 32767
+}
+
 // The products of a row by the signs, also where a place meets itself.
 fn signed_row(values: &[i16; 40], signs: &[i16; 40], sign: i16) -> [i16; 40]
+    requires { ⌜ ((i : ℕ) → i < 40 → natAbs (at (now signs) i) ≡ 32767) × (natAbs sign ≡ 32767) ⌝ }
     ensures { λ r. ⌜ r ≡ tabulate (λ i. mult (at (now (values .entry)) i) (mult (at (now (signs .entry)) i) sign)) 40 ⌝ }
 {
     let mut row = [0i16; 40];
     for i in 0..40 {
-        row[i] = fixed::fractional(values[i], fixed::fractional(signs[i], sign));
+        row[i] = crossed(values[i], signs[i], sign);
     }
     row
+}
+
+// By two signs of 32767, whose Q15 product is 32766 or -32767: words alone, no product.
+fn crossed(value: i16, a: i16, b: i16) -> i16
+    requires { ⌜ (natAbs a ≡ 32767) × (natAbs b ≡ 32767) ⌝ }
+    ensures { λ r. ⌜ r ≡ mult value (mult a b) ⌝ }
+{
+    if a == b {
+        return by_same(value);
+    }
+    by_other(value)
+}
+
+fn by_same(v: i16) -> i16
+    ensures { λ r. ⌜ r ≡ mult v (pos 32766) ⌝ }
+{
+    v - ((v - (v >> 1) + 8191) >> 13)
+}
+
+fn by_other(v: i16) -> i16
+    ensures { λ r. ⌜ r ≡ mult v (negsuc 32766) ⌝ }
+{
+    (v >> 15) - v
 }
 
 // From the last row up. The sums of all distances grow side by side, each in its own order; a row's values are stored at both of their places.

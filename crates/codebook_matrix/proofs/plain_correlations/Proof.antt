@@ -106,7 +106,7 @@ add-sums-2 c =
     let t = c .before .before .before .before in
     let s = t .before .before .before in
     let b = s .before .before in
-    rw (term c) (fits-abs w32 _ (omega (arith, sum-small (b .args .normalized .now) (s .loop .k + 1) (s .loop .k + t .loop2 .i) (omega (arith, t .loop2 .inv .0)) (omega (arith, t .loop2 .inv .0)), b .pre)))
+    rw (term c) (fits-abs w32 _ (omega (arith, sum-small (b .args .normalized .now) (s .loop .k + 1) (s .loop .k + t .loop2 .i) (omega (arith, t .loop2 .inv .0)) (omega (arith, t .loop2 .inv .0)), b .pre .0)))
 
 add-sums-3 : tie.Need-add-sums-3 Inv-loop2 μ-loop2 Inv-loop μ-loop
 add-sums-3 c = search needs
@@ -148,7 +148,7 @@ rounded-requires c κs =
       t .loop2 .inv .0,
       λ i u.
           rw (summed l (k + i) (omega (arith, t .loop2 .inv .0)))
-          (omega (arith, sum-small (b .args .normalized .now) (k + 1) (k + i) (omega (arith, t .loop2 .inv .0)) (omega (arith, t .loop2 .inv .0)), b .pre)),
+          (omega (arith, sum-small (b .args .normalized .now) (k + 1) (k + i) (omega (arith, t .loop2 .inv .0)) (omega (arith, t .loop2 .inv .0)), b .pre .0)),
     )
 
 sub-signed-row : tie.Need-sub-signed-row Inv-loop2 μ-loop2 Inv-loop μ-loop
@@ -161,7 +161,14 @@ element-copy-out-signed-row : tie.Need-element-copy-out-signed-row Inv-loop2 μ-
 element-copy-out-signed-row c = search needs
 
 signed-row-requires : tie.Need-signed-row-requires Inv-loop2 μ-loop2 Inv-loop μ-loop
-signed-row-requires c κs = tt
+signed-row-requires c κs =
+    let r = c .before .before in
+    let t = r .before .before .before in
+    let s = t .before .before .before in
+    let b = s .before .before in
+    let ss = b .args .signs .now in
+    let x : toZ w16 (ofZ w16 (at ss (39 - s .loop .k))) ≡ at ss (39 - s .loop .k) = got w16 (c .signed-row-arg .given) refl in
+    (b .pre .1, rw x (b .pre .1 (39 - s .loop .k) (omega arith)))
 
 sub-table : tie.Need-sub-table Inv-loop2 μ-loop2 Inv-loop μ-loop
 sub-table c = search needs
@@ -226,7 +233,7 @@ loop-again c =
     let x : toZ w16 (ofZ w16 (at ss (39 - k))) ≡ at ss (39 - k) = got w16 (g .before .signed-row-arg .given) refl in
     let ec = rw x at (g .signed-row .ensures) in
     let y : toZ w16 (ofZ w16 (at values (39 - k))) ≡ at values (39 - k) = got w16 (c .table .given) refl in
-    let e = row-is ns ss (omega (arith, b .pre)) k h values (g .signed-row .result) ev ec in (
+    let e = row-is ns ss (omega (arith, b .pre .0)) k h values (g .signed-row .result) ev ec in (
       omega arith,
       t .loop2 .inv .2,
       summed l,

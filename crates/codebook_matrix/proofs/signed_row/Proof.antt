@@ -22,23 +22,26 @@ abbrev μ-loop : tie.MeasureT-loop
 loop-holds : tie.Need-loop-holds Inv-loop μ-loop
 loop-holds c = (omega arith, refl, λ k l. absurd (omega arith))
 
-mul-fractional : tie.Need-mul-fractional Inv-loop μ-loop
-mul-fractional c = search needs
+mul-crossed : tie.Need-mul-crossed Inv-loop μ-loop
+mul-crossed c = search needs
 
-element-copy-out-fractional : tie.Need-element-copy-out-fractional Inv-loop μ-loop
-element-copy-out-fractional c = search needs
+element-copy-out-crossed : tie.Need-element-copy-out-crossed Inv-loop μ-loop
+element-copy-out-crossed c = search needs
 
-mul-fractional-2 : tie.Need-mul-fractional-2 Inv-loop μ-loop
-mul-fractional-2 c = search needs
+mul-crossed-2 : tie.Need-mul-crossed-2 Inv-loop μ-loop
+mul-crossed-2 c = search needs
 
-element-copy-out-fractional-2 : tie.Need-element-copy-out-fractional-2 Inv-loop μ-loop
-element-copy-out-fractional-2 c = search needs
+element-copy-out-crossed-2 : tie.Need-element-copy-out-crossed-2 Inv-loop μ-loop
+element-copy-out-crossed-2 c = search needs
 
-fractional-requires : tie.Need-fractional-requires Inv-loop μ-loop
-fractional-requires c κs = tt
-
-fractional-requires-2 : tie.Need-fractional-requires-2 Inv-loop μ-loop
-fractional-requires-2 c κs = tt
+crossed-requires : tie.Need-crossed-requires Inv-loop μ-loop
+crossed-requires c κs =
+    let s = c .before .before .before in
+    let b = s .before in
+    let a = b .args in
+    let i = s .loop .i in
+    let q : toZ w16 (ofZ w16 (at (a .signs .now) i)) ≡ at (a .signs .now) i = got w16 (c .crossed-arg2 .given) refl in
+    (rw q (b .pre .0 i (omega arith)), rw (toZ-ofZ (b .fits .sign)) (b .pre .1))
 
 mul-row : tie.Need-mul-row Inv-loop μ-loop
 mul-row c = search needs
@@ -54,18 +57,17 @@ loop-less c = search needs
 
 loop-again : tie.Need-loop-again Inv-loop μ-loop
 loop-again c =
-    let b = c .before in
-    let y = b .before in
+    let y = c .before in
     let x = y .before in
     let s = x .before .before in
     let a = s .before .args in
     let sign : ℤ = toZ w16 (ofZ w16 (a .sign)) in
     let i = s .loop .i in
     let f : ℕ → ℤ = λ k. mult (at (a .values .now) k) (mult (at (a .signs .now) k) sign) in
-    let v : ℤ = toZ w16 (ofZ w16 (c .fractional2 .result)) in
-    let p : toZ w16 (ofZ w16 (at (a .values .now) i)) ≡ at (a .values .now) i = got w16 (x .fractional-arg .given) refl in
-    let q : toZ w16 (ofZ w16 (at (a .signs .now) i)) ≡ at (a .signs .now) i = got w16 (y .fractional-arg2 .given) refl in
-    let e : v ≡ f i = rw (got w16 (c .fractional2 .ok) (c .fractional2 .ensures), got w16 (b .fractional .ok) (b .fractional .ensures), p, q) in
+    let v : ℤ = toZ w16 (ofZ w16 (c .crossed .result)) in
+    let p : toZ w16 (ofZ w16 (at (a .values .now) i)) ≡ at (a .values .now) i = got w16 (x .crossed-arg .given) refl in
+    let q : toZ w16 (ofZ w16 (at (a .signs .now) i)) ≡ at (a .signs .now) i = got w16 (y .crossed-arg2 .given) refl in
+    let e : v ≡ f i = rw (got w16 (c .crossed .ok) (c .crossed .ensures), p, q) in
     filling-more f 40 i (s .loop .row) v (omega arith) e (s .loop .inv)
 
 returns : tie.Need-returns Inv-loop μ-loop
@@ -83,12 +85,11 @@ signed-row-spec =
     Inv-loop
     μ-loop
     loop-holds
-    mul-fractional
-    element-copy-out-fractional
-    mul-fractional-2
-    element-copy-out-fractional-2
-    fractional-requires
-    fractional-requires-2
+    mul-crossed
+    element-copy-out-crossed
+    mul-crossed-2
+    element-copy-out-crossed-2
+    crossed-requires
     mul-row
     array-set-from-row
     add-i
