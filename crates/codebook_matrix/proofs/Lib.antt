@@ -3,3 +3,4 @@ pub mod Filling
 pub mod Entries
 pub mod Sliding
 pub mod Crossing
+pub mod Scaling

@@ -3,7 +3,7 @@ ghost use mathlib.Core.Path.{_≡_};
 ghost use mathlib.Core.Bool.{true};
 ghost use Prim.Native.Nat.{ℕ, _+_, _-_, _<_};
 ghost use lib.IntN.{pos, negsuc, natAbs, _*ℤ_};
-ghost use Rattle.fixed.specs.Operators.{mult, round};
+ghost use Rattle.fixed.specs.Operators.{mult, round, L-mult, L-shl};
 ghost use Rattle.fixed.specs.Lists.{at, tabulate};
 ghost use Rattle.fixed.proofs.Quiet.{squared};
 ghost use Rattle.codebook_matrix.specs.Matrices.{energy, gain-of, scaled-by, normalised, signed, correlations, cor-h};
@@ -13,8 +13,6 @@ const SUBFRAME_SAMPLES: usize = 40;
 const INITIAL_ENERGY: i32 = 2;
 
 const INVERSE_SCALE_SHIFT: i16 = 7;
-
-const IMPULSE_SCALE_SHIFT: i16 = 9;
 
 const IMPULSE_HEADROOM_Q15: i16 = 32440;
 
@@ -60,12 +58,16 @@ fn scaled(impulse: &[i16; 40], gain: i16) -> [i16; 40]
 {
     let mut words = [0i16; 40];
     for i in 0..SUBFRAME_SAMPLES {
-        words[i] = fixed::rounded(fixed::shift(
-            fixed::product(impulse[i], gain),
-            IMPULSE_SCALE_SHIFT,
-        ));
+        words[i] = scaled_word(impulse[i], gain);
     }
     words
+}
+
+// The doubled product shifted to the left by 9 and rounded, in one shift and one clip.
+fn scaled_word(word: i16, gain: i16) -> i16
+    ensures { λ r. ⌜ r ≡ round (L-shl (L-mult word gain) (pos 9)) ⌝ }
+{
+    fixed::clip16((fixed::exact(word, gain) + 32) >> 6)
 }
 
 // Where the energy leaves room for the rounding too, no sum of products is clipped: 2 |a b| is at most a² + b². The signs of a search are all 32767 or -32767.

@@ -7,7 +7,7 @@ use mathlib.Core.Path.{_∙_, _≡_, refl}
 use mir.Val.{ofZ, toZ}
 use mir.Facts.{toZ-ofZ}
 use native.Mathlib.Omega.{arith}
-use mir.Syntax.{w16, w32}
+use mir.Syntax.{w16}
 use Rattle.fixed.proofs.Bounds.{got}
 use Rattle.fixed.specs.Operators.{L-mult, L-shl, round}
 use Rattle.fixed.specs.Lists.{at}
@@ -23,20 +23,14 @@ abbrev μ-loop : tie.MeasureT-loop
 loop-holds : tie.Need-loop-holds Inv-loop μ-loop
 loop-holds c = (omega arith, refl, λ k l. absurd (omega arith))
 
-mul-product : tie.Need-mul-product Inv-loop μ-loop
-mul-product c = search needs
+mul-scaled-word : tie.Need-mul-scaled-word Inv-loop μ-loop
+mul-scaled-word c = search needs
 
-element-copy-out-product : tie.Need-element-copy-out-product Inv-loop μ-loop
-element-copy-out-product c = search needs
+element-copy-out-scaled-word : tie.Need-element-copy-out-scaled-word Inv-loop μ-loop
+element-copy-out-scaled-word c = search needs
 
-product-requires : tie.Need-product-requires Inv-loop μ-loop
-product-requires c κs = tt
-
-shift-requires : tie.Need-shift-requires Inv-loop μ-loop
-shift-requires c κs = tt
-
-rounded-requires : tie.Need-rounded-requires Inv-loop μ-loop
-rounded-requires c κs = tt
+scaled-word-requires : tie.Need-scaled-word-requires Inv-loop μ-loop
+scaled-word-requires c κs = tt
 
 mul-words : tie.Need-mul-words Inv-loop μ-loop
 mul-words c = search needs
@@ -52,14 +46,14 @@ loop-less c = search needs
 
 loop-again : tie.Need-loop-again Inv-loop μ-loop
 loop-again c =
-    let s = c .before .before .before .before .before in
+    let s = c .before .before .before in
     let a = s .before .args in
     let g : ℤ = toZ w16 (ofZ w16 (a .gain)) in
     let f : ℕ → ℤ = λ k. round (L-shl (L-mult (at (a .impulse .now) k) g) (pos 9)) in
     let i = s .loop .i in
-    let v : ℤ = toZ w16 (ofZ w16 (c .rounded .result)) in
-    let x : toZ w16 (ofZ w16 (at (a .impulse .now) i)) ≡ at (a .impulse .now) i = got w16 (c .before .before .before .product-arg .given) refl in
-    let e : v ≡ f i = rw (got w16 (c .rounded .ok) (c .rounded .ensures), got w32 (c .before .shift .ok) (c .before .shift .ensures), got w32 (c .before .before .product .ok) (c .before .before .product .ensures), x) in
+    let v : ℤ = toZ w16 (ofZ w16 (c .scaled-word .result)) in
+    let x : toZ w16 (ofZ w16 (at (a .impulse .now) i)) ≡ at (a .impulse .now) i = got w16 (c .before .scaled-word-arg .given) refl in
+    let e : v ≡ f i = rw (got w16 (c .scaled-word .ok) (c .scaled-word .ensures), x) in
     filling-more f 40 i (s .loop .words) v (omega arith) e (s .loop .inv)
 
 returns : tie.Need-returns Inv-loop μ-loop
@@ -78,11 +72,9 @@ scaled-spec =
     Inv-loop
     μ-loop
     loop-holds
-    mul-product
-    element-copy-out-product
-    product-requires
-    shift-requires
-    rounded-requires
+    mul-scaled-word
+    element-copy-out-scaled-word
+    scaled-word-requires
     mul-words
     array-set-from-words
     add-i
