@@ -10,6 +10,7 @@ use lib.Signed.{mag, shrZ}
 use mir.Syntax.{Width, w32}
 use mir.Val.{SFits, toZ, ofZ}
 use mir.Facts.{toZ-ofZ}
+use Rattle.fixed.proofs.Plain.{middle}
 use Rattle.fixed.specs.Clip.{clip}
 use Rattle.fixed.specs.Operators.{L-add, L-mult, L-mac, extract-h, round}
 use Rattle.fixed.proofs.Bounds.{either}
@@ -19,12 +20,6 @@ use Rattle.fixed.proofs.Signs.{neg-pos}
 -- ---- products by natural numbers
 scale-suc : (z : ℤ) (q : ℕ) → z *ℤ pos (suc q) ≡ z *ℤ pos q +ℤ z
 scale-suc z q = *ℤ-comm z (pos (suc q)) ∙ sucℤ-*ℤ (pos q) z ∙ ap (λ (y : ℤ). y +ℤ z) (*ℤ-comm (pos q) z)
-
-middle : (a b c d : ℤ) → (a +ℤ b) +ℤ (c +ℤ d) ≡ (a +ℤ c) +ℤ (b +ℤ d)
-middle a b c d =
-    +ℤ-assoc a b (c +ℤ d)
-    ∙ ap (λ (y : ℤ). a +ℤ y) (sym (+ℤ-assoc b c d) ∙ ap (λ (y : ℤ). y +ℤ d) (+ℤ-comm b c) ∙ +ℤ-assoc c b d)
-    ∙ sym (+ℤ-assoc a c (b +ℤ d))
 
 -- of a sum
 pub scale-add : (q : ℕ) (a b : ℤ) → (a +ℤ b) *ℤ pos q ≡ a *ℤ pos q +ℤ b *ℤ pos q

@@ -1,6 +1,6 @@
 -- The product of a word by 32766 or -32767, which two signs of 32767 give, by sums and shifts of words.
 use mathlib.Core.Path.{_≡_, refl, sym, ap, _∙_}
-use mathlib.Core.Bool.{Bool, true, false, _&&_}
+use mathlib.Core.Bool.{Bool, true, false}
 use mathlib.Core.Logic.{_⊎_, inl, inr, ⊎-elim}
 use Prim.Native.Nat.{ℕ, zero, suc, _+_, _-_, _*_, _/_, _^_, _<_, _≤_}
 use native.Mathlib.Omega.{arith}
@@ -10,7 +10,7 @@ use lib.Signed.{mag, shrZ}
 use borrow.Author.Tests.{lt-ltb, le-ltb, ltb-true, ltb-false}
 use Rattle.fixed.specs.Clip.{clip}
 use Rattle.fixed.specs.Operators.{mult}
-use Rattle.fixed.proofs.Clips.{clip-fits, contradiction}
+use Rattle.fixed.proofs.Clips.{clip-fits}
 use Rattle.fixed.proofs.Signs.{neg-pos, pos-sub}
 
 -- differences of natural numbers
@@ -88,12 +88,6 @@ other-sign a b e f n =
     (λ (x : a ≡ pos 32767). ⊎-elim (λ (y : b ≡ pos 32767). absurd (n (x ∙ sym y))) (λ (y : b ≡ negsuc 32766). rw (x, y)) (full b f))
     (λ (x : a ≡ negsuc 32766). ⊎-elim (λ (y : b ≡ pos 32767). rw (x, y)) (λ (y : b ≡ negsuc 32766). absurd (n (x ∙ sym y))) (full b f))
     (full a e)
-
--- both of two tests
-pub both : (a b : Bool) → (a && b) ≡ true → (a ≡ true) × (b ≡ true)
-both true true e = (refl, refl)
-both true false e = contradiction e
-both false b e = contradiction e
 
 -- such a product is a word
 pub mult-fits : (a b : ℤ) → mag (mult a b) < 2 ^ 15

@@ -1,6 +1,6 @@
 -- The target followed by zeros: the sums of 40 products each that the plain way takes are those of cor_h_x.
 use mathlib.Core.Path.{_≡_, refl, sym, ap, _∙_}
-use mathlib.Core.Bool.{Bool, true, false, _&&_}
+use mathlib.Core.Bool.{Bool, true, false}
 use mathlib.Core.List.{List}
 use Prim.Native.Nat.{ℕ, zero, suc, _+_, _-_, _^_, _≤_, _<_}
 use native.Mathlib.Nat.{add-zero, add-suc}
@@ -8,24 +8,11 @@ use native.Mathlib.Omega.{arith}
 use lib.Dec.{ltb}
 use lib.IntN.{ℤ, pos, _*ℤ_, zero-*ℤ}
 use lib.ListN.{List·getD-eq-default}
-use lib.Signed.{ltZ}
 use borrow.Author.Tests.{le-leb, lt-ltb, le-ltb, ltb-true, ltb-false}
-use Rattle.fixed.specs.Lists.{at, tabulate, between, dot}
-use Rattle.fixed.proofs.Clips.{contradiction}
+use Rattle.fixed.specs.Lists.{at, tabulate, between}
 use Rattle.fixed.proofs.Lists.{length-tabulate, at-tabulate}
-use Rattle.fixed.proofs.Sums.{squares, energy-is}
-use Rattle.fixed.proofs.Quiet.{squared, plain, quiet, window, squared-more, squared-same, plain-same, plain-silent, squares-are, not-clipped}
+use Rattle.fixed.proofs.Quiet.{squared, plain, quiet, window, squared-more, squared-same, plain-same, plain-silent}
 use Rattle.codebook_target.specs.Targets.{correlated}
-
--- an energy that is not clipped
-pub quiet-energy : (xs : List ℤ) → ltZ (dot xs xs 40) (pos 2147483647) ≡ true → squared (at xs) 40 < 2 ^ 30
-quiet-energy xs e = rw (squares-are xs 40) at (not-clipped (squares xs 40) (rw (energy-is xs 40) at e))
-
--- both of two tests
-pub both : (a b : Bool) → (a && b) ≡ true → (a ≡ true) × (b ≡ true)
-both true true e = (refl, refl)
-both true false e = contradiction e
-both false b e = contradiction e
 
 -- terms of 0
 squared-silent : (x : ℕ → ℤ) (n j : ℕ) → ((k : ℕ) → n ≤ k → x k ≡ pos 0) → squared x (n + j) ≡ squared x n

@@ -1,6 +1,6 @@
 -- The laws of `clip`, for every width k at once, and what the two tests of a function that clips tell.
-use mathlib.Core.Path.{_≡_, sym, ap, _∙_}
-use mathlib.Core.Bool.{true, false}
+use mathlib.Core.Path.{_≡_, refl, sym, ap, _∙_}
+use mathlib.Core.Bool.{Bool, true, false, _&&_}
 use Prim.Native.Nat.{ℕ, _-_, _^_, _<_, _≤_, min}
 use native.Mathlib.Omega.{arith}
 use lib.Dec.{T, leb→le, le→leb}
@@ -45,6 +45,12 @@ clip-mono k {a} {b} h = record { le = go a b (h .le) }
 -- a test that is both false and true
 pub contradiction : {X : Type 0} → false ≡ true → X
 contradiction e = let z : _≡_ {A = ℕ} 0 1 = cc in absurd (omega arith)
+
+-- both of two tests
+pub both : (a b : Bool) → (a && b) ≡ true → (a ≡ true) × (b ≡ true)
+both true true e = (refl, refl)
+both true false e = contradiction e
+both false b e = contradiction e
 
 above : (k : ℕ) (z : ℤ) → ltZ (pos (2 ^ k - 1)) z ≡ true → pos (2 ^ k - 1) ≡ clip k z
 above k (pos n) e = ap pos (omega (arith, ltb-true))

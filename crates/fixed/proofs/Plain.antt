@@ -14,7 +14,7 @@ double : (z : ℤ) → pos 2 *ℤ z ≡ z +ℤ z
 unfolding one
 double z = sucℤ-*ℤ (pos 1) z ∙ ap (λ (y : ℤ). y +ℤ z) (*ℤ-comm (pos 1) z ∙ *ℤ-one z)
 
-middle : (a b c d : ℤ) → (a +ℤ b) +ℤ (c +ℤ d) ≡ (a +ℤ c) +ℤ (b +ℤ d)
+pub middle : (a b c d : ℤ) → (a +ℤ b) +ℤ (c +ℤ d) ≡ (a +ℤ c) +ℤ (b +ℤ d)
 middle a b c d =
     +ℤ-assoc a b (c +ℤ d)
     ∙ ap (λ (y : ℤ). a +ℤ y) (sym (+ℤ-assoc b c d) ∙ ap (λ (y : ℤ). y +ℤ d) (+ℤ-comm b c) ∙ +ℤ-assoc c b d)

@@ -11,10 +11,10 @@ use lib.IntN.{ℤ, pos, natAbs, _+ℤ_, _*ℤ_, +ℤ-idr}
 use lib.Signed.{ltZ}
 use borrow.Author.Tests.{ltb-true, leb-true, leb-false}
 use Rattle.fixed.specs.Operators.{L-add, L-mult}
-use Rattle.fixed.specs.Lists.{at, L-sum}
+use Rattle.fixed.specs.Lists.{at, L-sum, dot}
 use Rattle.fixed.proofs.Bounds.{abs-add, abs-mul}
 use Rattle.fixed.proofs.Plain.{double-add, unclipped, plain-mult}
-use Rattle.fixed.proofs.Sums.{squares}
+use Rattle.fixed.proofs.Sums.{squares, energy-is}
 
 -- the squares of the first n terms
 unfoldable pub squared : (ℕ → ℤ) → ℕ → ℕ
@@ -113,3 +113,6 @@ squares-are xs (suc n) = rw (squares-are xs n)
 -- the caller's test of an energy
 pub not-clipped : (a : ℕ) → ltZ (pos (min (2 * a) 2147483647)) (pos 2147483647) ≡ true → a < 2 ^ 30
 not-clipped a e = omega (arith, ltb-true (min (2 * a) 2147483647) 2147483647 e)
+
+pub quiet-energy : (xs : List ℤ) (n : ℕ) → ltZ (dot xs xs n) (pos 2147483647) ≡ true → squared (at xs) n < 2 ^ 30
+quiet-energy xs n e = rw (squares-are xs n) at (not-clipped (squares xs n) (rw (energy-is xs n) at e))

@@ -7,7 +7,7 @@ use lib.Dec.{T, leb, ltb, eqb, ltb→lt, le→leb}
 use lib.IntN.{ℤ, pos, negsuc}
 use lib.Signed.{ltZ, leZ, _≤ℤ_, _<ℤ_, ltZ-yes, ltZ-no, ≤ℤ-refl, <ℤ-≤ℤ-trans, clashℤ}
 use borrow.Author.Tests.{eqb-true, eqb-false, ltb-true, ltb-false}
-use Rattle.fixed.proofs.Clips.{contradiction}
+use Rattle.fixed.proofs.Clips.{contradiction, both}
 use Rattle.gain.specs.Rows.{nearer, nearest, Lowest-of-least}
 
 -- ---- the order of the integers
@@ -21,10 +21,6 @@ weaken a b h = record { le = go a b (h .lt) }
     go (negsuc a) (negsuc b) t = le→leb b a (omega (arith, ltb→lt b a t))
 
 -- ---- a test of two parts
-both-true : (a b : Bool) → a && b ≡ true → (a ≡ true) × (b ≡ true)
-both-true true b e = (refl, e)
-both-true false b e = contradiction e
-
 second-false : (a b : Bool) → a ≡ true → a && b ≡ false → b ≡ false
 second-false true b h e = e
 second-false false b h e = contradiction h
@@ -44,7 +40,7 @@ module _ (within : ℕ → Bool) (d : ℕ → ℤ) where
   module _ (n held : ℕ) (L : Lowest-of-least within d (suc n) held) where
     taken : within (suc n) && ltZ (d (suc n)) (d held) ≡ true → Lowest-of-least within d (suc (suc n)) (suc n)
     taken e =
-        let b = both-true (within (suc n)) (ltZ (d (suc n)) (d held)) e in
+        let b = both (within (suc n)) (ltZ (d (suc n)) (d held)) e in
         let below : d (suc n) <ℤ d held = ltZ-yes (rw (b .1) tt) in
         record {
           row = omega arith;

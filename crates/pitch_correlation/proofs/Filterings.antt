@@ -2,15 +2,12 @@
 use mathlib.Core.Path.{_≡_, refl, ap}
 use mathlib.Core.Bool.{Bool, true, false, cond}
 use mathlib.Core.List.{List}
-use Prim.Native.Nat.{ℕ, zero, suc, _-_, _^_, _≤_, _<_, min}
+use Prim.Native.Nat.{ℕ, zero, suc, _-_, _≤_, _<_, min}
 use native.Mathlib.Omega.{arith}
 use lib.IntN.{ℤ, pos}
 use lib.ListN.{length}
 use Rattle.fixed.specs.Operators.{add, L-mult, L-shl, extract-h}
-use lib.Signed.{ltZ}
-use Rattle.fixed.specs.Lists.{at, dot}
-use Rattle.fixed.proofs.Sums.{squares, energy-is}
-use Rattle.fixed.proofs.Quiet.{squared, squares-are, not-clipped}
+use Rattle.fixed.specs.Lists.{at}
 use borrow.Author.Tests.{eq-eqb, le-leb, lt-ltb}
 use Rattle.pitch_correlation.specs.Correlations.{update-at, correlations, Norm-Corr}
 
@@ -18,10 +15,6 @@ use Rattle.pitch_correlation.specs.Correlations.{update-at, correlations
 pub shift-held : (l : Bool) → min (cond l 1 3) 15 ≡ cond l 1 3
 shift-held true = refl
 shift-held false = refl
-
--- an energy that is not clipped
-pub quiet-energy : (xs : List ℤ) → ltZ (dot xs xs 40) (pos 2147483647) ≡ true → squared (at xs) 40 < 2 ^ 30
-quiet-energy xs t = rw (← (squares-are xs 40)) (not-clipped (squares xs 40) (rw (energy-is xs 40) at t))
 
 -- a word of an update past the first
 pub update-suc : (l : Bool) (hs : List ℤ) (sample : ℤ) (fs : List ℤ) (j : ℕ) → 1 ≤ j →

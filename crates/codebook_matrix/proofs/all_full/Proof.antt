@@ -1,3 +1,4 @@
+use Rattle.fixed.proofs.Clips.{both}
 use Rattle.codebook_matrix.proofs.all_full.Statement.{statement}
 use Rattle.codebook_matrix.proofs.all_full.Tie as tie
 use borrow.Author.Needs.{needs}
@@ -11,7 +12,6 @@ use mir.Syntax.{w16}
 use mir.Val.{toZ, ofZ}
 use Rattle.fixed.specs.Lists.{at}
 use Rattle.fixed.proofs.Bounds.{got}
-use Rattle.codebook_matrix.proofs.Crossing.{both}
 
 abbrev Inv-loop : tie.InvT-loop
 Inv-loop signs all₀ i₀ all i = (i ≤ 40) × (all ≡ true → (k : ℕ) → k < i → natAbs (at signs k) ≡ 32767)

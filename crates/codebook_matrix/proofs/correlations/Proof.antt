@@ -1,4 +1,5 @@
 use borrow.Author.Needs.{needs}
+use Rattle.fixed.proofs.Clips.{both}
 use Rattle.codebook_matrix.proofs.correlations.Statement.{statement}
 use Rattle.codebook_matrix.proofs.correlations.Tie as tie
 use mir.Syntax.{w32}
@@ -7,7 +8,6 @@ use Rattle.codebook_matrix.proofs.Sliding.{room}
 use lib.IntN.{pos}
 use lib.Signed.{ltZ}
 use mir.Val.{toZ, ofZ}
-use Rattle.codebook_matrix.proofs.Crossing.{both}
 
 all-full-requires : tie.Need-all-full-requires
 all-full-requires c κs = search needs

@@ -1,8 +1,8 @@
 use borrow.Author.Needs.{needs}
+use Rattle.fixed.proofs.Clips.{both}
 use Rattle.codebook_target.proofs.raw_correlations.Statement.{statement}
 use Rattle.codebook_target.proofs.raw_correlations.Tie as tie
 use native.Mathlib.Omega.{arith}
-use Rattle.codebook_target.proofs.Followed.{both}
 
 is-quiet-requires : tie.Need-is-quiet-requires
 is-quiet-requires c κs = search needs

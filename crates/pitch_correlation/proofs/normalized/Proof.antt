@@ -4,11 +4,11 @@ use lib.IntN.{pos}
 use lib.Signed.{ltZ}
 use mir.Syntax.{w16, w32}
 use mir.Val.{toZ, ofZ}
+use Rattle.fixed.proofs.Quiet.{quiet-energy}
 use Rattle.fixed.proofs.Bounds.{got}
 use Rattle.fixed.proofs.Products.{high-whole}
 use Rattle.energy.specs.Root.{Inv-sqrt}
 use Rattle.pitch_correlation.specs.Correlations.{normalized}
-use Rattle.pitch_correlation.proofs.Filterings.{quiet-energy}
 use Rattle.pitch_correlation.proofs.normalized.Statement.{statement}
 use Rattle.pitch_correlation.proofs.normalized.Tie as tie
 
@@ -18,7 +18,7 @@ energy40-requires c κs = tt
 sum-with-requires : tie.Need-sum-with-requires
 sum-with-requires c κs t =
     let b = and-eq-true-iff (c .before .args .quiet) (ltZ (toZ w32 (ofZ w32 (c .energy40 .result))) (pos 2147483647)) .0 t in
-    let f = quiet-energy (c .before .args .filtered .now) (rw (got w32 (c .energy40 .ok) (c .energy40 .ensures)) at (b .1)) in
+    let f = quiet-energy (c .before .args .filtered .now) 40 (rw (got w32 (c .energy40 .ok) (c .energy40 .ensures)) at (b .1)) in
     let g = c .before .pre .1 (b .0) in
     omega arith
 
