@@ -109,11 +109,13 @@ WINDOW = dict(
     mends=[(r"st->old_T0", "old_T0", 1)],
 )
 
-# ---- what stands in: file, functions in the order of their text, own changes
+# ---- what stands in: file, functions in the order of their text, how many operators are put back, and
+# own changes. In the last three files nothing is put back: what can clip there is called as an operator
 STAND_INS = [
     dict(
         file="enc/src/c4_17pf.cpp",
         names=["code_4i40_17bits", "search_4i40", "build_code"],
+        operators=39,
         mends=[
             # The doubled gain clips: 01, 'The gain is doubled with clipping'.
             (r"sharp = pitch_sharp << 1;", "sharp = shl(pitch_sharp, 1);", 1),
@@ -122,14 +124,15 @@ STAND_INS = [
     dict(
         file="enc/src/qua_gain.cpp",
         names=["Qua_gain"],
+        operators=0,
         mends=[
             (r",\s*CommonAmrTbls\* common_amr_tbls", "", 1),
             (r"common_amr_tbls->table_gain_highrates_ptr", "table_gain_highrates", 1),
             (r"common_amr_tbls->table_gain_lowrates_ptr", "table_gain_highrates", 1),
         ],
     ),
-    dict(file="dec/src/dec_lag3.cpp", names=["Dec_lag3"], mends=[]),
-    dict(file="enc/src/spreproc.cpp", names=["subframePreProc"], mends=[]),
+    dict(file="dec/src/dec_lag3.cpp", names=["Dec_lag3"], operators=0, mends=[]),
+    dict(file="enc/src/spreproc.cpp", names=["subframePreProc"], operators=0, mends=[]),
 ]
 
 # ---- tables that are no symbols of the package: file, start, end
@@ -225,6 +228,9 @@ def main():
     for entry in STAND_INS:
         codes = [(name, code_of(read(entry["file"]), name)) for name in entry["names"]]
         joined = "\0".join(text for _, text in codes)
+        operators = len(re.findall(PUT_BACK[0][0], joined))
+        if operators != entry["operators"]:
+            fail(f"{entry['file']}: {operators} operators in comments, not {entry['operators']}")
         joined = changed(all_changed(joined, PUT_BACK + COMMON), entry["mends"], entry["file"])
         texts += [(name, text + "\n") for (name, _), text in zip(codes, joined.split("\0"))]
 

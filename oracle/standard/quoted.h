@@ -1,5 +1,5 @@
 /* The functions of standard.c by the names under which package.cpp calls them: the package has the
- * same names. */
+ * same names without `quoted_`. */
 #ifndef QUOTED_H
 #define QUOTED_H
 
@@ -16,31 +16,31 @@ struct place {
 };
 extern const struct place quoted_places[];
 
-void quoted_Weight_Ai(int16_t a[], const int16_t fac[], int16_t a_exp[]);
-void quoted_Residu(int16_t a[], int16_t x[], int16_t y[], int16_t lg);
-void quoted_Syn_filt(int16_t a[], int16_t x[], int16_t y[], int16_t lg, int16_t mem[], int16_t update);
-void quoted_comp_corr(int16_t scal_sig[], int16_t L_frame, int16_t lag_max, int16_t lag_min,
-                      int32_t corr[]);
-int16_t quoted_lag_max(int32_t corr[], int16_t scal_sig[], int16_t lag_max, int16_t lag_min,
-                       int16_t *cor_max);
-void quoted_Convolve(int16_t x[], int16_t h[], int16_t y[], int16_t L);
-void quoted_Norm_Corr(int16_t exc[], int16_t xn[], int16_t h[], int16_t L_subfr, int16_t t_min,
-                      int16_t t_max, int16_t corr_norm[]);
-void quoted_getRange(int16_t T0, int16_t delta_low, int16_t delta_range, int16_t pitmin,
-                     int16_t pitmax, int16_t *t0_min, int16_t *t0_max);
-void quoted_searchFrac(int16_t *lag, int16_t *frac, int16_t last_frac, int16_t corr[], int16_t flag3);
-void quoted_cor_h_x(int16_t h[], int16_t x[], int16_t dn[], int16_t sf);
-void quoted_set_sign(int16_t dn[], int16_t sign[], int16_t dn2[], int16_t n);
-void quoted_cor_h(int16_t h[], int16_t sign[], int16_t rr[][40]);
-void quoted_search_4i40(int16_t dn[], int16_t dn2[], int16_t rr[][40], int16_t codvec[]);
-void quoted_sharpen(int16_t h[], int16_t lag, int16_t gain);
-int16_t quoted_g_pitch(int16_t xn[], int16_t y1[], int16_t g_coeff[]);
-void quoted_energies(int16_t xn[], int16_t y1[], int16_t Y2[], int16_t g_coeff[],
-                     int16_t frac_coeff[], int16_t exp_coeff[]);
+void quoted_Weight_Ai(int16_t *, const int16_t *, int16_t *);
+void quoted_Residu(int16_t *, int16_t *, int16_t *, int16_t);
+void quoted_Syn_filt(int16_t *, int16_t *, int16_t *, int16_t, int16_t *, int16_t);
+void quoted_comp_corr(int16_t *, int16_t, int16_t, int16_t, int32_t *);
+void quoted_Convolve(int16_t *, int16_t *, int16_t *, int16_t);
+void quoted_Norm_Corr(int16_t *, int16_t *, int16_t *, int16_t, int16_t, int16_t, int16_t *);
+void quoted_getRange(int16_t, int16_t, int16_t, int16_t, int16_t, int16_t *, int16_t *);
+void quoted_searchFrac(int16_t *, int16_t *, int16_t, int16_t *, int16_t);
+void quoted_cor_h_x(int16_t *, int16_t *, int16_t *, int16_t);
+void quoted_set_sign(int16_t *, int16_t *, int16_t *, int16_t);
+void quoted_cor_h(int16_t *, int16_t *, int16_t (*)[40]);
+void quoted_search_4i40(int16_t *, int16_t *, int16_t (*)[40], int16_t *);
+
+/* The same at 7.4 kbit/s without DTX, in fewer arguments. */
+int16_t quoted_lag_max(int32_t *correlations, int16_t *signal, int16_t last, int16_t first,
+                       int16_t *value);
+int16_t quoted_g_pitch(int16_t *target, int16_t *adaptive, int16_t *correlations);
+void quoted_energies(int16_t *target, int16_t *adaptive, int16_t *filtered, int16_t *correlations,
+                     int16_t *fractions, int16_t *exponents);
+void quoted_sharpen(int16_t *impulse, int16_t lag, int16_t gain);
+/* The factors of the weighting filter, 1 for its numerator and 2 for its denominator. */
 const int16_t *quoted_gamma(int which);
 
+/* The operator that clipped first since clippings were forgotten, and its line; line 0: none. */
 void forget_clipping(void);
-/* The operator and line of the first clipping since; line 0: none. */
 const char *clipping_operator(void);
 int clipping_line(void);
 

@@ -98,10 +98,8 @@ extern const Word16 inv_sqrt_tbl[], pow2_tbl[], inter_6[], gray[], table_gain_hi
 #define subframePreProc quoted_subframePreProc
 
 /* Called above their text. */
-void cor_h_x2(Word16 h[], Word16 x[], Word16 dn[], Word16 sf, Word16 nb_track, Word16 step);
-void search_4i40(Word16 dn[], Word16 dn2[], Word16 rr[][L_CODE], Word16 codvec[]);
-Word16 build_code(Word16 codvec[], Word16 dn_sign[], Word16 cod[], Word16 h[], Word16 y[],
-                  Word16 sign[], const Word16 *gray_ptr);
+void cor_h_x2(Word16 *, Word16 *, Word16 *, Word16, Word16, Word16);
+Word16 build_code(Word16 *, Word16 *, Word16 *, Word16 *, Word16 *, Word16 *, const Word16 *);
 
 #define static /* package.cpp calls them too */
 #include "quoted.c"
@@ -109,29 +107,30 @@ Word16 build_code(Word16 codvec[], Word16 dn_sign[], Word16 cod[], Word16 h[], W
 
 /* ---- the functions by which package.cpp finds where an answer parts */
 
-int16_t quoted_lag_max(int32_t corr[], int16_t scal_sig[], int16_t lag_max, int16_t lag_min,
-                       int16_t *cor_max)
+int16_t quoted_lag_max(int32_t *correlations, int16_t *signal, int16_t last, int16_t first,
+                       int16_t *value)
 {
-    return Lag_max(NULL, corr, scal_sig, 0, 0, HALF_FRAME, lag_max, lag_min, cor_max, 0);
+    return Lag_max(NULL, correlations, signal, 0, 0, HALF_FRAME, last, first, value, 0);
 }
 
-int16_t quoted_g_pitch(int16_t xn[], int16_t y1[], int16_t g_coeff[])
+int16_t quoted_g_pitch(int16_t *target, int16_t *adaptive, int16_t *correlations)
 {
-    return G_pitch(MR74, xn, y1, g_coeff, L_SUBFR);
+    return G_pitch(MR74, target, adaptive, correlations, L_SUBFR);
 }
 
-void quoted_energies(int16_t xn[], int16_t y1[], int16_t Y2[], int16_t g_coeff[],
-                     int16_t frac_coeff[], int16_t exp_coeff[])
+void quoted_energies(int16_t *target, int16_t *adaptive, int16_t *filtered, int16_t *correlations,
+                     int16_t *fractions, int16_t *exponents)
 {
     Word16 fraction, exponent;
-    calc_filt_energies(MR74, xn, xn, y1, Y2, g_coeff, frac_coeff, exp_coeff, &fraction, &exponent);
+    calc_filt_energies(MR74, target, target, adaptive, filtered, correlations, fractions, exponents,
+                       &fraction, &exponent);
 }
 
-void quoted_sharpen(int16_t h[], int16_t lag, int16_t gain)
+void quoted_sharpen(int16_t *impulse, int16_t lag, int16_t gain)
 {
     Word16 doubled = shl(gain, 1);
-    for (int i = lag; i < L_CODE; i++)
-        h[i] = add(h[i], mult(h[i - lag], doubled));
+    for (int i = lag; i < SUBFRAME; i++)
+        impulse[i] = add(impulse[i], mult(impulse[i - lag], doubled));
 }
 
 const int16_t *quoted_gamma(int which)
