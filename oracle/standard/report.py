@@ -64,8 +64,10 @@ def main():
     table(["kind"] + FEEDS + ["compared", "standard differs", "package differs"], rows)
 
     print("Where the package leaves the quoted standard:\n")
-    order = {name: place for place, name in enumerate(names.values())}
-    found = {(KINDS.index(kind), order.get(name, len(order)), name) for _, kind, name in classes}
+    order = {(kind, name): place for place, ((kind, _), name) in enumerate(names.items())}
+    found = {
+        (KINDS.index(kind), order.get((kind, name), len(order)), name) for _, kind, name in classes
+    }
     rows = []
     for kind, _, name in sorted(found):
         counts = [classes[feed, KINDS[kind], name] for feed in FEEDS]
