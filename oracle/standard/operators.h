@@ -2,7 +2,7 @@
  * those of crates/fixed/specs/Operators.antt, which has them as one number each.
  *
  * Two things are kept beside the answers: Overflow, the standard's flag, and the place in the text
- * that clipped first, by which a difference is told from another. */
+ * that clipped, by which a difference is told from another. */
 #ifndef OPERATORS_H
 #define OPERATORS_H
 
@@ -21,16 +21,18 @@ struct clipping {
     int line;
 };
 
+/* How often was clipped, and the one of these that is told. */
 extern Flag Overflow;
-extern struct clipping first_clipping;
+extern long clippings, awaited_clipping;
+extern struct clipping told_clipping;
 
 /* A difference that is only compared has no name: it is clipped, and no answer feels it. */
 static inline void clipped(const char *name, int line)
 {
     Overflow = 1;
-    if (name && first_clipping.line == 0) {
-        first_clipping.operator_name = name;
-        first_clipping.line = line;
+    if (name && ++clippings == awaited_clipping) {
+        told_clipping.operator_name = name;
+        told_clipping.line = line;
     }
 }
 

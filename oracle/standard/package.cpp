@@ -140,7 +140,7 @@ template <typename T, int N> bool same(const T (&left)[N], const T (&right)[N])
     return memcmp(left, right, sizeof left) == 0;
 }
 
-/* The function, and what clips first in the quoted one since `forget_clipping`. */
+/* The function, and what clips first in the quoted one since `await_clipping`. */
 const char *told(const char *function)
 {
     static char text[120];
@@ -155,6 +155,25 @@ const char *told(const char *function)
     snprintf(text, sizeof text, "%s, %s clips at line %d of %s", function, clipping_operator(),
              line - found->line + 1, found->name);
     return text;
+}
+
+template <typename T, int N> int first_difference(const T (&left)[N], const T (&right)[N])
+{
+    int place = 0;
+    while (place < N - 1 && left[place] == right[place])
+        place++;
+    return place;
+}
+
+/* The function, and what clips first in the quoted one where it makes the first place that differs.
+ * `make(n)` makes the first n places. */
+template <typename Make> const char *told_at(const char *function, int place, Make make)
+{
+    await_clipping(0);
+    make(place);
+    await_clipping(clippings_so_far());
+    make(place + 1);
+    return told(function);
 }
 
 } // namespace
@@ -174,7 +193,7 @@ const char *why_open(const int16_t *words)
 
     Word32 left[PIT_MAX + 1] = {0}, right[PIT_MAX + 1] = {0};
     Flag overflow = 0;
-    forget_clipping();
+    await_clipping(0);
     quoted_comp_corr(signal, HALF_FRAME, PIT_MAX, PIT_MIN, &left[PIT_MAX]);
     comp_corr(signal, HALF_FRAME, PIT_MAX, PIT_MIN, &right[PIT_MAX]);
     if (!same(left, right))
@@ -183,14 +202,14 @@ const char *why_open(const int16_t *words)
     const Word16 ends[3][2] = {{143, 80}, {79, 40}, {39, 20}};
     for (auto end : ends) {
         Word16 value, other;
-        forget_clipping();
+        await_clipping(0);
         Word16 found = quoted_lag_max(&left[PIT_MAX], signal, end[0], end[1], &value);
         if (found != Lag_max(NULL, &left[PIT_MAX], signal, 0, 0, HALF_FRAME, end[0], end[1], &other,
                              0, &overflow)
             || value != other)
             return told("Lag_max");
     }
-    forget_clipping();
+    await_clipping(0);
     return told("Pitch_ol");
 }
 
@@ -206,21 +225,22 @@ const char *why_pitch(const pitch_call *given)
     first -= L_INTER_SRCH;
     last += L_INTER_SRCH;
 
-    forget_clipping();
     quoted_Convolve(&excitation[-first], call.impulse, left, SUBFRAME);
     Convolve(&excitation[-first], call.impulse, right, SUBFRAME);
     if (!same(left, right))
-        return told("Convolve");
+        return told_at("Convolve", first_difference(left, right), [&](int n) {
+            quoted_Convolve(&excitation[-first], call.impulse, left, n);
+        });
 
     memset(left, 0, sizeof left);
     memset(right, 0, sizeof right);
-    forget_clipping();
+    await_clipping(0);
     quoted_Norm_Corr(excitation, call.target, call.impulse, SUBFRAME, first, last, left - first);
     Norm_Corr(excitation, call.target, call.impulse, SUBFRAME, first, last, right - first, &overflow);
     if (!same(left, right))
         return told("Norm_Corr");
 
-    forget_clipping();
+    await_clipping(0);
     for (Word16 i = first + L_INTER_SRCH; i <= last - L_INTER_SRCH; i++) {
         Word16 lags[2] = {i, i}, fractions[2] = {-2, -2};
         quoted_searchFrac(&lags[0], &fractions[0], 2, left - first, 1);
@@ -238,7 +258,7 @@ const char *why_pulses(const pulse_call *given)
     Flag overflow = 0;
     memcpy(left, call.impulse, sizeof left);
     memcpy(right, call.impulse, sizeof right);
-    forget_clipping();
+    await_clipping(0);
     quoted_sharpen(left, call.lag, call.gain);
     for (int i = call.lag; i < SUBFRAME; i++)
         right[i] = add_16(right[i], mult(right[i - call.lag], sharp, &overflow), &overflow);
@@ -246,32 +266,32 @@ const char *why_pulses(const pulse_call *given)
         return "code_4i40_17bits, shl clips";
 
     Word16 *impulse = left, dn[2][SUBFRAME], dn2[2][SUBFRAME], signs[2][SUBFRAME];
-    forget_clipping();
+    await_clipping(0);
     quoted_cor_h_x(impulse, call.target, dn[0], 1);
     cor_h_x(impulse, call.target, dn[1], 1, &overflow);
     if (!same(dn[0], dn[1]))
         return told("cor_h_x");
 
-    forget_clipping();
+    await_clipping(0);
     quoted_set_sign(dn[0], signs[0], dn2[0], 4);
     set_sign(dn[1], signs[1], dn2[1], 4);
     if (!same(dn[0], dn[1]) || !same(signs[0], signs[1]) || !same(dn2[0], dn2[1]))
         return told("set_sign");
 
     static Word16 tables[2][SUBFRAME][SUBFRAME];
-    forget_clipping();
+    await_clipping(0);
     quoted_cor_h(impulse, signs[0], tables[0]);
     cor_h(impulse, signs[0], tables[1], &overflow);
     if (!same(tables[0], tables[1]))
         return told("cor_h");
 
     Word16 places[2][4];
-    forget_clipping();
+    await_clipping(0);
     quoted_search_4i40(dn[0], dn2[0], tables[0], places[0]);
     search_4i40(dn[0], dn2[0], tables[0], places[1], &overflow);
     if (!same(places[0], places[1]))
         return told("search_4i40");
-    forget_clipping();
+    await_clipping(0);
     return told("build_code");
 }
 
@@ -280,7 +300,7 @@ const char *why_gain(const gain_call *given)
     gain_call call = *given;
     Word16 correlations[2][4];
     Flag overflow = 0;
-    forget_clipping();
+    await_clipping(0);
     quoted_g_pitch(call.target, call.adaptive, correlations[0]);
     G_pitch(MR74, call.target, call.adaptive, correlations[1], SUBFRAME, &overflow);
     auto differ = [&](int i) { return correlations[0][i] != correlations[1][i]; };
@@ -292,13 +312,13 @@ const char *why_gain(const gain_call *given)
         return "G_pitch, the correlation's exponent alone";
 
     Word16 fractions[2][5], exponents[2][5];
-    forget_clipping();
+    await_clipping(0);
     quoted_energies(call.target, call.adaptive, call.filtered, correlations[0], fractions[0],
                     exponents[0]);
     energies(call, correlations[0], fractions[1], exponents[1]);
     if (!same(fractions[0], fractions[1]) || !same(exponents[0], exponents[1]))
         return told("calc_filt_energies");
-    forget_clipping();
+    await_clipping(0);
     return told("Qua_gain");
 }
 
@@ -307,7 +327,7 @@ const char *why_filter(const filter_call *given)
     filter_call call = *given;
     Word16 zero[ORDER] = {0}, weights[2][2][ORDER + 1];
     for (int i = 0; i < 2; i++) {
-        forget_clipping();
+        await_clipping(0);
         quoted_Weight_Ai(call.coefficients, quoted_gamma(i + 1), weights[i][0]);
         Weight_Ai(call.coefficients, quoted_gamma(i + 1), weights[i][1]);
         if (!same(weights[i][0], weights[i][1]))
@@ -316,34 +336,41 @@ const char *why_filter(const filter_call *given)
 
     Word16 input[SUBFRAME] = {0}, left[SUBFRAME], right[SUBFRAME];
     memcpy(input, weights[0][0], sizeof weights[0][0]);
-    auto filtered = [&](Word16 coefficients[], Word16 memory[]) {
-        forget_clipping();
+    // Each filter gets what the quoted one before it made; where its answer is the same, no text.
+    auto synthesis = [&](Word16 coefficients[], Word16 memory[]) -> const char * {
         quoted_Syn_filt(coefficients, input, left, SUBFRAME, memory, 0);
         Syn_filt(coefficients, input, right, SUBFRAME, memory, 0);
+        if (!same(left, right))
+            return told_at("Syn_filt", first_difference(left, right), [&](int n) {
+                quoted_Syn_filt(coefficients, input, left, n, memory, 0);
+            });
         memcpy(input, left, sizeof input);
-        return same(left, right);
+        return nullptr;
     };
-    if (!filtered(call.quantized, zero) || !filtered(weights[1][0], zero))
-        return told("Syn_filt");
-
     Word16 speech[ORDER + SUBFRAME];
-    auto residual = [&](Word16 coefficients[]) {
-        forget_clipping();
+    auto residual = [&](Word16 coefficients[]) -> const char * {
         quoted_Residu(coefficients, &speech[ORDER], left, SUBFRAME);
         Residu(coefficients, &speech[ORDER], right, SUBFRAME);
+        if (!same(left, right))
+            return told_at("Residu", first_difference(left, right), [&](int n) {
+                quoted_Residu(coefficients, &speech[ORDER], left, n);
+            });
         memcpy(input, left, sizeof input);
-        return same(left, right);
+        return nullptr;
     };
+
+    const char *text = nullptr;
+    (text = synthesis(call.quantized, zero)) || (text = synthesis(weights[1][0], zero));
+    if (text)
+        return text;
     memcpy(speech, call.speech, sizeof speech);
-    if (!residual(call.quantized))
-        return told("Residu");
-    if (!filtered(call.quantized, call.error))
-        return told("Syn_filt");
+    (text = residual(call.quantized)) || (text = synthesis(call.quantized, call.error));
+    if (text)
+        return text;
     memcpy(speech, call.error, sizeof call.error);
-    memcpy(&speech[ORDER], left, sizeof left);
-    if (!residual(weights[0][0]))
-        return told("Residu");
-    return filtered(weights[1][0], call.weighting) ? told("subframePreProc") : told("Syn_filt");
+    memcpy(&speech[ORDER], input, sizeof input);
+    (text = residual(weights[0][0])) || (text = synthesis(weights[1][0], call.weighting));
+    return text ? text : "subframePreProc";
 }
 
 } // extern "C"

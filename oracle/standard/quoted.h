@@ -39,8 +39,10 @@ void quoted_sharpen(int16_t *impulse, int16_t lag, int16_t gain);
 /* The factors of the weighting filter, 1 for its numerator and 2 for its denominator. */
 const int16_t *quoted_gamma(int which);
 
-/* The operator that clipped first since clippings were forgotten, and its line; line 0: none. */
-void forget_clipping(void);
+/* From now on the first clipping is told, or the first behind so many: its operator and its line;
+ * line 0: none. */
+void await_clipping(long passed_over);
+long clippings_so_far(void);
 const char *clipping_operator(void);
 int clipping_line(void);
 

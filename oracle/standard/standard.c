@@ -9,21 +9,29 @@
 #include "readers.h"
 
 Flag Overflow;
-struct clipping first_clipping;
+long clippings, awaited_clipping = 1;
+struct clipping told_clipping;
 
-void forget_clipping(void)
+void await_clipping(long passed_over)
 {
-    first_clipping.line = 0;
+    clippings = 0;
+    awaited_clipping = passed_over + 1;
+    told_clipping.line = 0;
+}
+
+long clippings_so_far(void)
+{
+    return clippings;
 }
 
 const char *clipping_operator(void)
 {
-    return first_clipping.operator_name;
+    return told_clipping.operator_name;
 }
 
 int clipping_line(void)
 {
-    return first_clipping.line;
+    return told_clipping.line;
 }
 
 /* ---- what the texts expect around them */
