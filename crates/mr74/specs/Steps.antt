@@ -11,9 +11,8 @@ use Rattle.pitch.specs.declared.Reader.{Reader}
 use Rattle.pitch.specs.Kinds.{thirds, subframe-number}
 use Rattle.pitch_search.specs.declared.Search.{Search}
 use Rattle.feed.specs.Records.{Standing, nothing, whole}
-use Rattle.selection.specs.declared.Selection.{Selection}
 use Rattle.selection.specs.Lines.{Line, none, line}
-use Rattle.selection.specs.Steps.{Step, step}
+use Rattle.selection.specs.Steps.{Step, selection-of, step}
 use Rattle.mr74.specs.declared.PitchState.{PitchState}
 use Rattle.mr74.specs.declared.Fields.{Fields}
 use Rattle.mr74.specs.declared.RecordAnswer.{RecordAnswer}
@@ -73,9 +72,6 @@ pub record Crossed : Type 0 where
   pub history : List ℤ
   pub words : List ℤ
 
-abbrev pub selection-of : PitchState → PitchState → List ℤ → Selection
-selection-of searcher reader history = record { detector = record { «history_q0» = history }; searcher = searcher-of searcher; reader = reader-of reader }
-
 abbrev pub of-step : Step → List ℤ → List ℤ → Crossed
 of-step o history words =
     record {
@@ -89,4 +85,4 @@ unfoldable pub crossed-step : List ℕ → ℕ → PitchState → PitchState →
 crossed-step feed at searcher reader history words =
     checked (length-is 143 history ∷ length-is 160 words ∷ [])
     (λ n d. record { answer = step-answer (fields-of (refused n d)) (searcher-of searcher) (reader-of reader); history = history; words = words })
-    (of-step (step (selection-of searcher reader history) feed at) history words)
+    (of-step (step (selection-of history (searcher-of searcher) (reader-of reader)) feed at) history words)

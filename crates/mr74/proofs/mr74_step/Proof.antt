@@ -5,8 +5,9 @@ use borrow.Author.Tests.{ne-eqb, eq-eqb}
 use Rattle.selection.specs.declared.Answer.{Answer}
 use Rattle.selection.specs.declared.Answer.the-variants.{End, Reset, Open, Pitch, Pulses, Gain, Filter, Lag, Refused}
 use Rattle.selection.specs.Lines.{told-answer}
-use Rattle.selection.specs.Steps.{told-step, step}
-use Rattle.mr74.specs.Steps.{fields-of, selection-of, crossed-step}
+use Rattle.selection.specs.Steps.{selection-of, told-step, step}
+use Rattle.mr74.specs.Pitches.{searcher-of, reader-of}
+use Rattle.mr74.specs.Steps.{fields-of, crossed-step}
 use borrow.Author.Needs.{needs}
 use Rattle.mr74.proofs.mr74_step.Statement.{statement}
 use Rattle.mr74.proofs.mr74_step.Tie as tie
@@ -100,7 +101,7 @@ returns-3 c =
     let a = s .before .before .args in
     let n = eq-eqb _ _ (e1 .if1 .left) in
     let m = eq-eqb _ _ (e2 .if2 .left) in
-    let o : told-step (p .step .result) ≡ step (selection-of (a .searcher) (a .reader) (a .history-q0 .now)) (a .feed .now) (a .at) =
+    let o : told-step (p .step .result) ≡ step (selection-of (a .history-q0 .now) (searcher-of (a .searcher)) (reader-of (a .reader))) (a .feed .now) (a .at) =
     rw (h .history .ensures, s .searcher-of .ensures, r .reader-of .ensures) at (p .step .ensures)
     in (
       rw (n, m, c .step-answer3 .ensures, words-apart (p .step .result .answer) (p .step .result .words), ← o),
