@@ -16,7 +16,8 @@
  *
  *   number  what is turned down                                               detail
  *        1  a list has another length than its stage needs                    the first such length
- *        2  a subframe is outside 1 to 4, or a limit is not 0 or 1            that number
+ *        2  a subframe, that of a call or the one expected next, is outside
+ *           1 to 4, or a limit is not 0 or 1                                  that number
  *        3  an open-loop lag is outside 20 to 143                             the first such lag
  *        4  the subframe is not the one expected next                         the expected one
  *        5  a relative pitch index is above 31                                the index
@@ -28,7 +29,7 @@
  *       10  a feed ends inside a record's body                                the body bytes present
  *
  * Where several things are wrong the lowest number is given. Lengths are checked in the order of
- * the arguments.
+ * the arguments, a call's subframe before the one that its searcher or reader expects.
  *
  * q0, q10, q12, q13, q14 and q15 in a name say how many of the word's bits are fraction bits.
  */
@@ -116,11 +117,15 @@ mr74_open_loop_answer mr74_open_loop_lag(uint16_t samples);
 
 /* ---- Closed loop ---- */
 
-/* A searcher or a lag reader. */
+/*
+ * A searcher or a lag reader. Calls take any numbers: no answer depends on the fraction, and a
+ * `next` outside 1 to 4 is refused by 2, directly after the call's own subframe. A refused call
+ * hands back the numbers that it was given, whatever they are.
+ */
 typedef struct {
     uint16_t samples; /* the lag before: whole samples .. */
-    int16_t fraction; /* .. and thirds, -1, 0 or 1; another number is taken by its sign */
-    uint8_t next;     /* the subframe expected, 1 to 4; another number is taken as 4 */
+    int16_t fraction; /* .. and thirds, -1, 0 or 1 */
+    uint8_t next;     /* the subframe expected, 1 to 4 */
 } mr74_pitch_state;
 
 typedef struct {
@@ -296,8 +301,11 @@ typedef struct {
 
 /*
  * Runs the record at a place of a feed: its stage, or the reset. The detector's MR74_HISTORY words
- * are updated. The other list takes the MR74_FILTER_WORDS words of a filtering record, and zeros
- * from every other, a refused one too. Refuses by 1 (history, then words), 2 to 7, 9 and 10.
+ * are updated. The other list takes the MR74_FILTER_WORDS words of a filtering record; every other
+ * record, and a refused one, leaves it as it was. Only a pitch record looks at the subframe that
+ * the searcher expects, and only a lag reading at the reader's. A reset makes both fresh, whatever
+ * they were; a state that a record does not use is handed back as it was given.
+ * Refuses by 1 (history, then words), 2 to 7, 9 and 10.
  */
 mr74_step_answer mr74_step(const uint8_t *feed, size_t feed_length, size_t at,
                            mr74_pitch_state searcher, mr74_pitch_state reader,

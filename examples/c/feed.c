@@ -51,7 +51,7 @@ int main(void)
     uint8_t *feed = read_all(&length);
     if (feed == NULL)
         return 2;
-    int16_t history[MR74_HISTORY] = {0}, words[MR74_FILTER_WORDS];
+    int16_t history[MR74_HISTORY] = {0}, words[MR74_FILTER_WORDS] = {0};
     mr74_pitch_state searcher = mr74_fresh_pitch(), reader = mr74_fresh_pitch();
     size_t number = 0, at = 0;
     mr74_record_answer record = mr74_record(feed, length, at);

@@ -30,6 +30,7 @@ mod search;
 mod selection;
 mod speech;
 mod speed;
+mod states;
 mod subframes;
 mod sums;
 mod words;
@@ -114,6 +115,8 @@ fn compare_functions(names: &[&str]) -> Result<ExitCode, String> {
     functions.extend(filtering::functions());
     functions.extend(pulses::functions());
     functions.extend(gain::functions());
+    functions.extend(states::functions());
+    functions.extend(selection::functions());
     for name in names {
         if !functions.iter().any(|function| function.name == *name) {
             let mut known: Vec<_> = functions.iter().map(|function| function.name).collect();
@@ -189,13 +192,14 @@ fn write_feed(name: &str, records: &str, seed: &str) -> Result<ExitCode, String>
 /// feeds to theirs.
 fn record_samples(folder: &Path, feeds: &Path) -> Result<ExitCode, String> {
     type Write = fn(&Path) -> io::Result<usize>;
-    let samples: [(&str, Write); 6] = [
+    let samples: [(&str, Write); 7] = [
         ("replay", record::write),
         ("replay_open_loop", open_loop::record::write),
         ("replay_filtering", filtering::record::write),
         ("replay_pulses", pulses::record::write),
         ("replay_gain", gain::record::write),
         ("select", selection::record::write),
+        ("select_unknown_kind", selection::record::write_unknown_kind),
     ];
     let samples = samples.map(|(program, write)| (program, folder.join(program), write));
     let feeds: (&str, _, Write) = (

@@ -10,12 +10,14 @@ mod feeds;
 mod program;
 pub mod record;
 mod stages;
+mod states;
 mod steps;
 
 pub use answers::{Answer, Answered, TITLE, filter_words, printed};
 pub use compare::{compare, program_path};
 pub use encoder::changed;
 pub use stages::{LagReader, Stages, first};
+pub use states::functions;
 
 use crate::feed::{self, Record};
 use feeds::{Feed, Making, NAMES, Name, Parts};

@@ -1,7 +1,7 @@
 //! The library's functions as they are: lists of any length, numbers of any value, and answers
 //! whose `number` is 0 where the call was accepted. Else it is the refusal's, `magnitude` is its
-//! detail (below 0 where `negative` is not 0), and the values are 0. include/mr74.h says what each
-//! list is.
+//! detail (below 0 where `negative` is not 0), the values are 0, no list has been written, and the
+//! states are those that were given. include/mr74.h says what each list is.
 //!
 //! All unsafe code is here. Nothing checks these declarations against the library's source; they
 //! repeat its interface, and the oracle compares every one of them through this module.
@@ -20,7 +20,9 @@ macro_rules! answers {
 answers! {
     LengthAnswer { number: u8, magnitude: u64, }
     OpenLoopAnswer { number: u8, magnitude: u64, lag: u16, }
-    /// A searcher or a lag reader: the lag before, its thirds, and the subframe expected next.
+    /// A searcher or a lag reader: the lag before, its thirds, and the subframe expected next. No
+    /// answer depends on the thirds. A `next` outside 1 to 4 is refused by 2, after the call's own
+    /// subframe, and a refusal hands back the numbers that were given, whatever they are.
     PitchState { samples: u16, fraction: i16, next: u8, }
     /// The index and the lag, then the searcher or reader after the call.
     PitchAnswer {
@@ -220,8 +222,9 @@ entries! {
     /// The record at a place of a feed.
     fn record as mr74_record(feed: &[u8], at: usize) -> RecordAnswer;
 
-    /// Runs the record at a place of a feed. The detector's words are lent and updated there, and the
-    /// last list takes the 160 words of a filtering record, else zeros.
+    /// Runs the record at a place of a feed. The detector's words are lent and updated there, and
+    /// the last list takes the 160 words of a filtering record; every other record, and a refused
+    /// one, leaves it as it was. A state that the record does not use comes back as it was given.
     fn step as mr74_step(
         feed: &[u8],
         at: usize,

@@ -46,6 +46,51 @@ fn subframes_and_limits_are_refused_by_2() {
 }
 
 #[test]
+fn expected_subframes_are_refused_by_2_and_numbers_come_back() {
+    let state = |next| entries::PitchState {
+        samples: 7,
+        fraction: 5,
+        next,
+    };
+    for next in [0, 5, 255] {
+        let read = entries::read_lag(state(next), 4, 0);
+        assert_eq!((read.number, read.magnitude), (2, next.into()));
+        assert_eq!(read.state(), state(next));
+        let read = entries::read_lag(state(next), 6, 0);
+        assert_eq!((read.number, read.magnitude), (2, 6));
+        let excitation = [0; EXCITATION_SAMPLES];
+        let found = entries::pitch_search(state(next), &excitation, &SILENCE, &SILENCE, 19, 19, 4);
+        assert_eq!((found.number, found.magnitude), (2, next.into()));
+        assert_eq!(found.state(), state(next));
+    }
+    let read = entries::read_lag(state(3), 4, 0);
+    assert_eq!((read.number, read.magnitude), (4, 3));
+    assert_eq!(read.state(), state(3));
+}
+
+#[test]
+fn steps_write_no_words_but_those_of_a_filtering_record() {
+    let state = entries::PitchState {
+        samples: 7,
+        fraction: 5,
+        next: 9,
+    };
+    let step = |feed: &[u8]| {
+        let mut words = [7; 160];
+        let answer = entries::step(feed, 0, state, state, &mut [0; 143], &mut words);
+        let kept = [answer.reader_next, answer.searcher_next];
+        (answer.number, answer.magnitude, kept, words == [7; 160])
+    };
+    let filtering = [&[5][..], &[1; 184]].concat();
+    assert_eq!(step(&[0]), (0, 0, [1, 1], true));
+    assert_eq!(step(&[6, 1, 189]), (2, 9, [9, 9], true));
+    assert_eq!(step(&[7]), (9, 7, [9, 9], true));
+    assert_eq!(step(&[1, 0, 0]), (10, 2, [9, 9], true));
+    assert_eq!(step(&filtering), (0, 0, [9, 9], false));
+    assert_eq!(step(&[]), (0, 0, [9, 9], true));
+}
+
+#[test]
 fn open_loop_lags_are_refused_by_3() {
     for lag in [0, 19, 144, u16::MAX] {
         assert_eq!(OpenLoopLag::try_new(lag), Err(refusal(3, lag.into())));

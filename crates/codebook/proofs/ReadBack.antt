@@ -6,11 +6,11 @@ use Prim.Native.Nat.{ℕ, zero, suc, _+_, _-_, _*_, _/_, _%_, _^_, _≤_, _<_}
 use native.Mathlib.Omega.{arith}
 use lib.Dec.{T, leb, eqb, ltb, ltb→lt, eqb→eq}
 use lib.IntN.{ℤ, pos, negsuc}
-use lib.ListN.{length, getD, length-set}
+use lib.ListN.{length, getD, length-set, List·getD-eq-default}
 use Rattle.fixed.proofs.Bounds.{either}
 use Rattle.fixed.proofs.Clips.{contradiction}
 use Rattle.fixed.proofs.Tables.{both, both-left, both-right, at}
-use borrow.Author.Tests.{eq-eqb, leb-true}
+use borrow.Author.Tests.{eq-eqb, leb-true, ltb-true, ltb-false}
 use Rattle.refusal.specs.Refused.{accepts}
 use Rattle.refusal.specs.Checks.{Outcome}
 use Rattle.codebook.specs.declared.Places.{Places}
@@ -57,6 +57,26 @@ module _ (k : ℕ) (h : k < 8) where
 
   pub gray-dgray : getD gray (getD dgray k 0) 0 ≡ k
   gray-dgray = all-facts .3
+
+-- the Gray number of a place has three bits, and so what it adds to the position word is at most 7 * 1024 + 512
+pub number-lt : (place : ℕ) → number-of place < 8
+unfolding gray
+number-lt place = go (ltb (place / 5) 8) refl
+  where
+    go : (t : Bool) → ltb (place / 5) 8 ≡ t → number-of place < 8
+    go true q = gray-lt (place / 5) (ltb-true (place / 5) 8 q)
+    go false q = let l = ltb-false (place / 5) 8 q in rw (List·getD-eq-default gray 0 {n = place / 5} l) (omega arith)
+
+in-track-le : (track number : ℕ) → number < 8 → in-track track number ≤ 7680
+unfolding in-track
+in-track-le zero number h = omega arith
+in-track-le (suc zero) number h = omega arith
+in-track-le (suc (suc zero)) number h = omega arith
+in-track-le (suc (suc (suc zero))) number h = omega arith
+in-track-le (suc (suc (suc (suc track)))) number h = omega arith
+
+pub position-bits-le : (place : ℕ) → position-bits place ≤ 7680
+position-bits-le place = in-track-le (place % 5) (number-of place) (number-lt place)
 
 -- a place that is read is one of the 40
 pub place-lt : (bits track : ℕ) → track < 5 → place-of bits track < 40
@@ -144,6 +164,18 @@ bit-lt false = omega arith
 bit-back : (b : Bool) (bits : ℕ) → bits % 2 ≡ bit b → pulse-of bits ≡ cond b (pos 8191) (negsuc 8191)
 bit-back true bits e = rw e
 bit-back false bits e = rw e
+
+-- in any slot
+pub sign-bit-le : (b : Bool) (place : ℕ) → sign-bit b place ≤ 8
+sign-bit-le true place = go (slot place) (omega arith)
+  where
+    go : (k : ℕ) → k ≤ 3 → 2 ^ k ≤ 8
+    go zero h = omega arith
+    go (suc zero) h = omega arith
+    go (suc (suc zero)) h = omega arith
+    go (suc (suc (suc zero))) h = omega arith
+    go (suc (suc (suc (suc k)))) h = absurd (omega arith)
+sign-bit-le false place = omega arith
 
 sign-is : (b : Bool) (place k : ℕ) → slot place ≡ k → sign-bit b place ≡ bit b * 2 ^ k
 sign-is true place k e = rw e (omega arith)

@@ -1,18 +1,23 @@
-// The pulse reader, TS 26.073 decode_4i40_17bits and dgray, from codebook.rs.
+// The pulse reader, TS 26.073 decode_4i40_17bits and dgray, from codebook.rs; how a place and a sign are written, build_code and gray.
 use refusal::Refusal;
 ghost use mathlib.Core.Path.{_≡_};
-ghost use Prim.Native.Nat.{_<_};
+ghost use Prim.Native.Nat.{_<_, _^_};
 ghost use lib.ListN.{length};
 ghost use Rattle.codebook.specs.Gray.{dgray};
+ghost use Rattle.codebook.specs.Words.{number-of, position-bits, slot, sign-bit};
 ghost use Rattle.codebook.specs.Readers.{place-of, pulse-of, places-of, pulses-at, told-places, decode};
 
 const SUBFRAME_SAMPLES: usize = 40;
 
 const TRACKS: usize = 5;
 
+const POSITIONS_PER_TRACK: usize = 8;
+
 const MAX_POSITIONS: u16 = 8191;
 
 const MAX_SIGNS: u16 = 15;
+
+const GRAY: [u16; 8] = [0, 1, 3, 2, 6, 4, 5, 7];
 
 const INVERSE_GRAY: [u8; 8] = [0, 1, 3, 2, 5, 6, 4, 7];
 
@@ -98,4 +103,50 @@ fn pulse(bits: u16) -> i16
         return POSITIVE_Q13;
     }
     NEGATIVE_Q13
+}
+
+// ---- What a pulse adds to the two words.
+
+pub fn position_bits(place: usize) -> u16
+    ensures { λ r. ⌜ r ≡ position-bits place ⌝ }
+{
+    let number = gray_number(place);
+    match place % TRACKS {
+        0 => number,
+        1 => number * 8,
+        2 => number * 64,
+        3 => number * 1024,
+        _ => number * 1024 + 512,
+    }
+}
+
+// 0 past the last place.
+fn gray_number(place: usize) -> u16
+    ensures { λ r. ⌜ r ≡ number-of place ⌝ }
+{
+    if place / TRACKS < POSITIONS_PER_TRACK {
+        let table = GRAY;
+        return table[place / TRACKS];
+    }
+    0
+}
+
+pub fn sign_bit(positive: bool, place: usize) -> u16
+    ensures { λ r. ⌜ r ≡ sign-bit positive place ⌝ }
+{
+    if positive {
+        return bit(place);
+    }
+    0
+}
+
+fn bit(place: usize) -> u16
+    ensures { λ r. ⌜ r ≡ 2 ^ slot place ⌝ }
+{
+    match place % TRACKS {
+        0 => 1,
+        1 => 2,
+        2 => 4,
+        _ => 8,
+    }
 }

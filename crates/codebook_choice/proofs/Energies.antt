@@ -10,10 +10,10 @@ use borrow.Author.Tests.{leb-true}
 use mir.Syntax.{w16, w32}
 use mir.Val.{SFits, toZ, ofZ}
 use mir.Facts.{toZ-ofZ}
-use Rattle.fixed.proofs.Bounds.{fits-16-32}
+use Rattle.fixed.proofs.Bounds.{ok, fits-16-32, shift-fits}
 use Rattle.fixed.proofs.Clips.{contradiction}
 use Rattle.fixed.specs.Operators.{L-mult, L-mac, L-deposit-h, round}
-use Rattle.codebook_choice.proofs.Units.{Within, read, word, within-add, within-scale, within-mag, within-32, scale-add, scale-scale, mult-plain, mac-plain, round-14, round-12}
+use Rattle.codebook_choice.proofs.Units.{Within, read, word, within-add, within-scale, within-more, within-mag, within-32, within-16, scale-add, scale-scale, mult-plain, mac-plain, round-14, round-12}
 
 -- a word by a factor, then by a unit
 by : (j q : ℕ) (a : ℤ) → pos j *ℤ a *ℤ pos q ≡ a *ℤ pos (q * j)
@@ -29,15 +29,107 @@ times-fits j {a} l f = within-32 (32768 * j) (32767 * j) (pos j *ℤ a) (within-
 pub twice-fits : {a : ℤ} → SFits w16 a → SFits w32 (pos 2 *ℤ a)
 twice-fits f = times-fits 2 (omega arith) f
 
--- what locals read that hold a word, such a product and a sum of these
-pub read-word : {a : ℤ} → SFits w16 a → toZ w32 (ofZ w32 (toZ w16 (ofZ w16 a))) ≡ a
+-- what locals hold: a word, such a product, a sum
+abbrev word-of : ℤ → ℤ
+word-of a = toZ w32 (ofZ w32 (toZ w16 (ofZ w16 a)))
+
+abbrev times-of : ℕ → ℤ → ℤ
+times-of j a = toZ w32 (ofZ w32 (pos j *ℤ word-of a))
+
+abbrev sum-of : ℤ → ℤ → ℤ
+sum-of x y = toZ w32 (ofZ w32 (x +ℤ y))
+
+pub read-word : {a : ℤ} → SFits w16 a → word-of a ≡ a
 read-word f = read w32 (toZ-ofZ f) (fits-16-32 f)
 
-pub read-times : (j : ℕ) {a : ℤ} → j ≤ 16 → SFits w16 a → toZ w32 (ofZ w32 (pos j *ℤ toZ w32 (ofZ w32 (toZ w16 (ofZ w16 a))))) ≡ pos j *ℤ a
+pub times-ok : (j : ℕ) {a : ℤ} → j ≤ 16 → SFits w16 a → SFits w32 (pos j *ℤ word-of a)
+times-ok j l f = rw (read-word f) (times-fits j l f)
+
+pub read-times : (j : ℕ) {a : ℤ} → j ≤ 16 → SFits w16 a → times-of j a ≡ pos j *ℤ a
 read-times j l f = read w32 (ap (λ (y : ℤ). pos j *ℤ y) (read-word f)) (times-fits j l f)
 
-pub read-sum : {x y a b : ℤ} → x ≡ a → y ≡ b → SFits w32 (a +ℤ b) → toZ w32 (ofZ w32 (x +ℤ y)) ≡ a +ℤ b
+pub sum-ok : {x y a b : ℤ} → x ≡ a → y ≡ b → SFits w32 (a +ℤ b) → SFits w32 (x +ℤ y)
+sum-ok e g f = rw (e, g) f
+
+pub read-sum : {x y a b : ℤ} → x ≡ a → y ≡ b → SFits w32 (a +ℤ b) → sum-of x y ≡ a +ℤ b
 read-sum {x} {y} {a} {b} e g f = read w32 {x = x +ℤ y} {y = a +ℤ b} (rw (e, g)) f
+
+-- ---- the sum of a third and of a fourth pulse: the energy so far by q, that of the place, two cross terms by 2
+-- four times a word, and sixteen times one that leaves room
+pub four-times : (base : ℤ) → mag base < 2 ^ 15 → Within 131072 131068 (pos 4 *ℤ base)
+four-times base f = within-by 32768 32767 4 base (word base f)
+
+room : (z : ℤ) → mag z < 18432 → Within 18432 18431 z
+room (pos n) h = omega arith
+room (negsuc n) h = omega arith
+
+pub sixteen-times : (base : ℤ) → mag base < 18432 → Within 294912 294896 (pos 16 *ℤ base)
+sixteen-times base low = within-by 18432 18431 16 base (room base low)
+
+module _ (q l h : ℕ) (base own a b : ℤ) (w : Within l h (pos q *ℤ base)) (g : mag own < 2 ^ 15) (i : mag a < 2 ^ 15) (j : mag b < 2 ^ 15) where
+  in-1 : Within (l + 32768) (h + 32767) (pos q *ℤ base +ℤ own)
+  in-1 = within-add l h 32768 32767 (pos q *ℤ base) own w (word own g)
+
+  in-2 : Within (l + 32768 + 65536) (h + 32767 + 65534) (pos q *ℤ base +ℤ own +ℤ pos 2 *ℤ a)
+  in-2 = within-add (l + 32768) (h + 32767) 65536 65534 (pos q *ℤ base +ℤ own) (pos 2 *ℤ a) in-1 (within-by 32768 32767 2 a (word a i))
+
+  pub in-3 : Within (l + 32768 + 65536 + 65536) (h + 32767 + 65534 + 65534) (pos q *ℤ base +ℤ own +ℤ pos 2 *ℤ a +ℤ pos 2 *ℤ b)
+  in-3 = within-add (l + 32768 + 65536) (h + 32767 + 65534) 65536 65534 (pos q *ℤ base +ℤ own +ℤ pos 2 *ℤ a) (pos 2 *ℤ b) in-2 (within-by 32768 32767 2 b (word b j))
+
+-- each addition of the code, and what it leaves
+module _ (q l h : ℕ) {base own a b : ℤ} (w : Within l h (pos q *ℤ base)) (small : q ≤ 16) (lm : l ≤ 2 ^ 20) (hm : h ≤ 2 ^ 20)
+    (f : SFits w16 base) (g : SFits w16 own) (i : SFits w16 a) (j : SFits w16 b) where
+  fits-1 : SFits w32 (pos q *ℤ base +ℤ own)
+  fits-1 = within-32 (l + 32768) (h + 32767) (pos q *ℤ base +ℤ own) (in-1 q l h base own a b w (g .sfits) (i .sfits) (j .sfits)) (omega arith) (omega arith)
+
+  fits-2 : SFits w32 (pos q *ℤ base +ℤ own +ℤ pos 2 *ℤ a)
+  fits-2 = within-32 (l + 32768 + 65536) (h + 32767 + 65534) (pos q *ℤ base +ℤ own +ℤ pos 2 *ℤ a) (in-2 q l h base own a b w (g .sfits) (i .sfits) (j .sfits)) (omega arith) (omega arith)
+
+  fits-3 : SFits w32 (pos q *ℤ base +ℤ own +ℤ pos 2 *ℤ a +ℤ pos 2 *ℤ b)
+  fits-3 =
+      within-32 (l + 32768 + 65536 + 65536) (h + 32767 + 65534 + 65534) (pos q *ℤ base +ℤ own +ℤ pos 2 *ℤ a +ℤ pos 2 *ℤ b)
+      (in-3 q l h base own a b w (g .sfits) (i .sfits) (j .sfits)) (omega arith) (omega arith)
+
+  pub ok-1 : SFits w32 (times-of q base +ℤ word-of own)
+  ok-1 = sum-ok (read-times q small f) (read-word g) fits-1
+
+  read-1 : sum-of (times-of q base) (word-of own) ≡ pos q *ℤ base +ℤ own
+  read-1 = read-sum (read-times q small f) (read-word g) fits-1
+
+  pub ok-2 : SFits w32 (sum-of (times-of q base) (word-of own) +ℤ times-of 2 a)
+  ok-2 = sum-ok read-1 (read-times 2 (omega arith) i) fits-2
+
+  read-2 : sum-of (sum-of (times-of q base) (word-of own)) (times-of 2 a) ≡ pos q *ℤ base +ℤ own +ℤ pos 2 *ℤ a
+  read-2 = read-sum read-1 (read-times 2 (omega arith) i) fits-2
+
+  pub ok-3 : SFits w32 (sum-of (sum-of (times-of q base) (word-of own)) (times-of 2 a) +ℤ times-of 2 b)
+  ok-3 = sum-ok read-2 (read-times 2 (omega arith) j) fits-3
+
+  pub read-3 : sum-of (sum-of (sum-of (times-of q base) (word-of own)) (times-of 2 a)) (times-of 2 b) ≡ pos q *ℤ base +ℤ own +ℤ pos 2 *ℤ a +ℤ pos 2 *ℤ b
+  read-3 = read-sum read-2 (read-times 2 (omega arith) j) fits-3
+
+-- the sum with the half that rounds, and its sixteenth, which is a word
+module _ (l h : ℕ) {x z : ℤ} (e : x ≡ z) (w : Within l h z) (lm : l ≤ 524288) (hm : h + 8 ≤ 524287) where
+  half-in : Within l (h + 8) (z +ℤ pos 8)
+  half-in = within-more (l + 0) (h + 8) l (h + 8) (z +ℤ pos 8) (within-add l h 0 8 z (pos 8) w (omega arith)) (omega arith) (omega arith)
+
+  half-fits : SFits w32 (z +ℤ pos 8)
+  half-fits = within-32 l (h + 8) (z +ℤ pos 8) half-in (omega arith) (omega arith)
+
+  word-fits : SFits w16 (shrZ (z +ℤ pos 8) 16)
+  word-fits = ok w16 (shrZ (z +ℤ pos 8) 16) (within-16 (z +ℤ pos 8) (within-more l (h + 8) 524288 524287 (z +ℤ pos 8) half-in lm hm))
+
+  pub half-ok : SFits w32 (x +ℤ pos 8)
+  half-ok = sum-ok e refl half-fits
+
+  read-shifted : toZ w32 (ofZ w32 (shrZ (sum-of x (pos 8)) 16)) ≡ shrZ (z +ℤ pos 8) 16
+  read-shifted = read w32 (ap (λ (y : ℤ). shrZ y 16) (read-sum e refl half-fits)) (shift-fits 16 half-fits)
+
+  pub word-ok : SFits w16 (toZ w32 (ofZ w32 (shrZ (sum-of x (pos 8)) 16)))
+  word-ok = rw read-shifted word-fits
+
+  pub read-energy : toZ w16 (ofZ w16 (toZ w32 (ofZ w32 (shrZ (sum-of x (pos 8)) 16)))) ≡ shrZ (z +ℤ pos 8) 16
+  read-energy = read w16 read-shifted word-fits
 
 module _ (base own : ℤ) (f : mag base < 2 ^ 15) (g : mag own < 2 ^ 15) where
   wb : Within 32768 32767 base
@@ -81,17 +173,8 @@ module _ (base own : ℤ) (f : mag base < 2 ^ 15) (g : mag own < 2 ^ 15) where
       w2 = word b fb
 
       -- ---- the third: a quarter, a sixteenth and eighths
-      pub third-own : Within 163840 163835 (pos 4 *ℤ base +ℤ own)
-      third-own = within-add 131072 131068 32768 32767 (pos 4 *ℤ base) own (within-by 32768 32767 4 base wb) wo
-
-      pub third-one : Within 229376 229369 (pos 4 *ℤ base +ℤ own +ℤ pos 2 *ℤ a)
-      third-one = within-add 163840 163835 65536 65534 (pos 4 *ℤ base +ℤ own) (pos 2 *ℤ a) third-own (within-by 32768 32767 2 a wa)
-
-      pub third-sum : Within 294912 294903 (pos 4 *ℤ base +ℤ own +ℤ pos 2 *ℤ a +ℤ pos 2 *ℤ b)
-      third-sum = within-add 229376 229369 65536 65534 (pos 4 *ℤ base +ℤ own +ℤ pos 2 *ℤ a) (pos 2 *ℤ b) third-one (within-by 32768 32767 2 b w2)
-
-      pub third-rounded : Within 294912 294911 (pos 4 *ℤ base +ℤ own +ℤ pos 2 *ℤ a +ℤ pos 2 *ℤ b +ℤ pos 8)
-      third-rounded = within-add 294912 294903 0 8 (pos 4 *ℤ base +ℤ own +ℤ pos 2 *ℤ a +ℤ pos 2 *ℤ b) (pos 8) third-sum (omega arith)
+      third-rounded : Within 294912 294911 (pos 4 *ℤ base +ℤ own +ℤ pos 2 *ℤ a +ℤ pos 2 *ℤ b +ℤ pos 8)
+      third-rounded = within-add 294912 294903 0 8 (pos 4 *ℤ base +ℤ own +ℤ pos 2 *ℤ a +ℤ pos 2 *ℤ b) (pos 8) (in-3 4 131072 131068 base own a b (four-times base f) g fa fb) (omega arith)
 
       pub third-plain :
           round (L-mac (L-mac (L-mac (L-mult base (pos 8192)) own (pos 2048)) a (pos 4096)) b (pos 4096)) ≡ shrZ (pos 4 *ℤ base +ℤ own +ℤ pos 2 *ℤ a +ℤ pos 2 *ℤ b +ℤ pos 8) 16
@@ -125,26 +208,12 @@ module _ (base own : ℤ) (f : mag base < 2 ^ 15) (g : mag own < 2 ^ 15) where
         w3 : Within 32768 32767 c
         w3 = word c fc
 
-        wl : Within 18432 18431 base
-        wl = small base low
-          where
-            small : (z : ℤ) → mag z < 18432 → Within 18432 18431 z
-            small (pos n) h = omega arith
-            small (negsuc n) h = omega arith
-
-        pub fourth-own : Within 327680 327663 (pos 16 *ℤ base +ℤ own)
-        fourth-own = within-add 294912 294896 32768 32767 (pos 16 *ℤ base) own (within-by 18432 18431 16 base wl) wo
-
-        pub fourth-one : Within 393216 393197 (pos 16 *ℤ base +ℤ own +ℤ pos 2 *ℤ a)
-        fourth-one = within-add 327680 327663 65536 65534 (pos 16 *ℤ base +ℤ own) (pos 2 *ℤ a) fourth-own (within-by 32768 32767 2 a wa)
-
-        pub fourth-two : Within 458752 458731 (pos 16 *ℤ base +ℤ own +ℤ pos 2 *ℤ a +ℤ pos 2 *ℤ b)
-        fourth-two = within-add 393216 393197 65536 65534 (pos 16 *ℤ base +ℤ own +ℤ pos 2 *ℤ a) (pos 2 *ℤ b) fourth-one (within-by 32768 32767 2 b w2)
-
         pub fourth-sum : Within 524288 524265 (pos 16 *ℤ base +ℤ own +ℤ pos 2 *ℤ a +ℤ pos 2 *ℤ b +ℤ pos 2 *ℤ c)
-        fourth-sum = within-add 458752 458731 65536 65534 (pos 16 *ℤ base +ℤ own +ℤ pos 2 *ℤ a +ℤ pos 2 *ℤ b) (pos 2 *ℤ c) fourth-two (within-by 32768 32767 2 c w3)
+        fourth-sum =
+            within-add 458752 458731 65536 65534 (pos 16 *ℤ base +ℤ own +ℤ pos 2 *ℤ a +ℤ pos 2 *ℤ b) (pos 2 *ℤ c)
+            (in-3 16 294912 294896 base own a b (sixteen-times base low) g fa fb) (within-by 32768 32767 2 c w3)
 
-        pub fourth-rounded : Within 524288 524273 (pos 16 *ℤ base +ℤ own +ℤ pos 2 *ℤ a +ℤ pos 2 *ℤ b +ℤ pos 2 *ℤ c +ℤ pos 8)
+        fourth-rounded : Within 524288 524273 (pos 16 *ℤ base +ℤ own +ℤ pos 2 *ℤ a +ℤ pos 2 *ℤ b +ℤ pos 2 *ℤ c +ℤ pos 8)
         fourth-rounded = within-add 524288 524265 0 8 (pos 16 *ℤ base +ℤ own +ℤ pos 2 *ℤ a +ℤ pos 2 *ℤ b +ℤ pos 2 *ℤ c) (pos 8) fourth-sum (omega arith)
 
         pub fourth-plain :
@@ -157,7 +226,7 @@ module _ (base own : ℤ) (f : mag base < 2 ^ 15) (g : mag own < 2 ^ 15) where
             let s1 : ℤ = s0 +ℤ own *ℤ pos 4096 in
             let s2 : ℤ = s1 +ℤ a *ℤ pos 8192 in
             let s3 : ℤ = s2 +ℤ b *ℤ pos 8192 in
-            let r0 : Within 1207959552 1207894016 s0 = within-scale 18432 18431 65536 base wl in
+            let r0 : Within 1207959552 1207894016 s0 = within-scale 18432 18431 65536 base (room base low) in
             let r1 : Within 1342177280 1342107648 s1 = within-add 1207959552 1207894016 134217728 134213632 s0 (own *ℤ pos 4096) r0 (within-scale 32768 32767 4096 own wo) in
             let r2 : Within 1610612736 1610534912 s2 = within-add 1342177280 1342107648 268435456 268427264 s1 (a *ℤ pos 8192) r1 (within-scale 32768 32767 8192 a wa) in
             let r3 : Within 1879048192 1878962176 s3 = within-add 1610612736 1610534912 268435456 268427264 s2 (b *ℤ pos 8192) r2 (within-scale 32768 32767 8192 b w2) in

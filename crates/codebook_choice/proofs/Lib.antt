@@ -5,4 +5,4 @@ pub mod Energies
 pub mod Comparing
 pub mod Tracks
 pub mod Starting
-pub mod Turning
+pub mod Trials

@@ -10,7 +10,7 @@ use lib.Signed.{mag, shrZ}
 use mir.Syntax.{Width, w32}
 use mir.Val.{SFits, toZ, ofZ}
 use mir.Facts.{toZ-ofZ}
-use Rattle.fixed.proofs.Plain.{middle}
+use Rattle.sums.proofs.Plain.{middle}
 use Rattle.fixed.specs.Clip.{clip}
 use Rattle.fixed.specs.Operators.{L-add, L-mult, L-mac, extract-h, round}
 use Rattle.fixed.proofs.Bounds.{either}

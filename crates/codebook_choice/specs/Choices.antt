@@ -43,13 +43,13 @@ kept held next = cond (exceeds (next .square) (next .energy) (held .square) (hel
 
 -- the correlations without their signs, and the table
 module _ (cs : List ℤ) (m : List (List ℤ)) where
-  -- 'i1 loop': the energies by 1/4, their crossing by 1/2
+  -- 'i1 loop': the energies by 1/4, their cross term by 1/2
   unfoldable pub second-at : ℕ → ℕ → Step
   second-at first p =
       step-to p (add (at cs first) (at cs p))
       (L-mac (L-mac (L-mult (cell m first first) (pos 8192)) (cell m p p) (pos 8192)) (cell m first p) (pos 16384))
 
-  -- 'i2 loop': the energy so far by 1/4, that of the place by 1/16, its crossings by 1/8, the later pulse first
+  -- 'i2 loop': the energy so far by 1/4, that of the place by 1/16, its cross terms by 1/8, the later pulse first
   unfoldable pub third-at : ℕ → Step → ℕ → Step
   third-at first one p =
       step-to p (add (one .sum) (at cs p))
@@ -80,14 +80,14 @@ module _ (cs : List ℤ) (m : List (List ℤ)) where
     started b c d held p = cond (may-start left p) (kept held (trial-from p b c d)) held
 
     -- the first n places of track a start, then tracks b, c, d follow
-    unfoldable pub turn : ℕ → ℕ → ℕ → ℕ → Trial → ℕ → Trial
-    turn a b c d held zero = held
-    turn a b c d held (suc n) = started b c d (turn a b c d held n) (a + 5 * n)
+    unfoldable pub permutation : ℕ → ℕ → ℕ → ℕ → Trial → ℕ → Trial
+    permutation a b c d held zero = held
+    permutation a b c d held (suc n) = started b c d (permutation a b c d held n) (a + 5 * n)
 
     -- 'Cyclic permutation of i0,i1,i2 and i3': with a last track, each of the four tracks starts once
-    unfoldable pub turns : ℕ → Trial → Trial
-    turns l held = turn 1 2 l 0 (turn 2 l 0 1 (turn l 0 1 2 (turn 0 1 2 l held 8) 8) 8) 8
+    unfoldable pub permutations : ℕ → Trial → Trial
+    permutations l held = permutation 1 2 l 0 (permutation 2 l 0 1 (permutation l 0 1 2 (permutation 0 1 2 l held 8) 8) 8) 8
 
     -- 'Default value': 'psk = -1', 'alpk = 1' and places 0 to 3; then last tracks 3 and 4
     unfoldable pub search-4i40 : Trial
-    search-4i40 = turns 4 (turns 3 (record { first = 0; second = 1; third = 2; fourth = 3; square = negsuc 0; energy = pos 1 }))
+    search-4i40 = permutations 4 (permutations 3 (record { first = 0; second = 1; third = 2; fourth = 3; square = negsuc 0; energy = pos 1 }))

@@ -10,7 +10,7 @@ ghost use Rattle.fixed.specs.Operators.{add, mult, round, L-mult, L-mac, L-depo
 ghost use Rattle.fixed.specs.Lists.{at, tabulate};
 ghost use Rattle.codebook_target.specs.Starts.{may-start};
 ghost use Rattle.codebook_matrix.specs.Matrices.{cell};
-ghost use Rattle.codebook_choice.specs.Choices.{step-to, exceeds, better, none-in, second-at, third-at, fourth-at, best-step, kept, last-step, turn, turns, search-4i40};
+ghost use Rattle.codebook_choice.specs.Choices.{step-to, exceeds, better, none-in, second-at, third-at, fourth-at, best-step, kept, last-step, permutation, permutations, search-4i40};
 
 const TRACKS: usize = 5;
 
@@ -38,8 +38,9 @@ pub struct Trial {
     pub energy: i16,
 }
 
-pub fn select(correlation: &[i16; 40], table: &[[i16; 40]; 40], left: &[i16; 40]) -> Trial
-    ensures { λ r. ⌜ r ≡ search-4i40 (now (correlation .entry)) (now (table .entry)) (now (left .entry)) ⌝ }
+// The table comes by value.
+pub fn select(correlation: &[i16; 40], table: [[i16; 40]; 40], left: &[i16; 40]) -> Trial
+    ensures { λ r. ⌜ r ≡ search-4i40 (now (correlation .entry)) table (now (left .entry)) ⌝ }
 {
     let held = Trial {
         first: 0,
@@ -49,17 +50,17 @@ pub fn select(correlation: &[i16; 40], table: &[[i16; 40]; 40], left: &[i16; 40]
         square: -1,
         energy: 1,
     };
-    turns(
-        turns(held, correlation, table, left, 3),
+    permutations(
+        permutations(held, correlation, &table, left, 3),
         correlation,
-        table,
+        &table,
         left,
         4,
     )
 }
 
-// Each of the four tracks starts once.
-fn turns(
+// The cyclic permutations of four tracks: each starts once.
+fn permutations(
     held: Trial,
     correlation: &[i16; 40],
     table: &[[i16; 40]; 40],
@@ -67,16 +68,16 @@ fn turns(
     last: usize,
 ) -> Trial
     requires { ⌜ last < 5 ⌝ }
-    ensures { λ r. ⌜ r ≡ turns (now (correlation .entry)) (now (table .entry)) (now (left .entry)) last held ⌝ }
+    ensures { λ r. ⌜ r ≡ permutations (now (correlation .entry)) (now (table .entry)) (now (left .entry)) last held ⌝ }
 {
-    let from_0 = turn(held, correlation, table, left, 0, 1, 2, last);
-    let from_last = turn(from_0, correlation, table, left, last, 0, 1, 2);
-    let from_2 = turn(from_last, correlation, table, left, 2, last, 0, 1);
-    turn(from_2, correlation, table, left, 1, 2, last, 0)
+    let from_0 = permutation(held, correlation, table, left, 0, 1, 2, last);
+    let from_last = permutation(from_0, correlation, table, left, last, 0, 1, 2);
+    let from_2 = permutation(from_last, correlation, table, left, 2, last, 0, 1);
+    permutation(from_2, correlation, table, left, 1, 2, last, 0)
 }
 
-// The starts of a turn go side by side, a pulse at a time: no choice waits for that of another start.
-fn turn(
+// The starts of a permutation go side by side, a pulse at a time: no choice waits for that of another start.
+fn permutation(
     held: Trial,
     correlation: &[i16; 40],
     table: &[[i16; 40]; 40],
@@ -87,7 +88,7 @@ fn turn(
     d: usize,
 ) -> Trial
     requires { ⌜ (a < 5) × (b < 5) × (c < 5) × (d < 5) ⌝ }
-    ensures { λ r. ⌜ r ≡ turn (now (correlation .entry)) (now (table .entry)) (now (left .entry)) a b c d held 8 ⌝ }
+    ensures { λ r. ⌜ r ≡ permutation (now (correlation .entry)) (now (table .entry)) (now (left .entry)) a b c d held 8 ⌝ }
 {
     let ones = seconds(correlation, table, left, a, b);
     let twos = thirds(correlation, table, left, a, ones, c);
@@ -324,10 +325,10 @@ fn fourth_energies(
 }
 
 // Sums of words by 1/4 and 1/2: nothing is clipped, so one shift and one rounding do.
-fn second_energy(base: i16, own: i16, crossed: i16) -> i16
-    ensures { λ r. ⌜ r ≡ round (L-mac (L-mac (L-mult base (pos 8192)) own (pos 8192)) crossed (pos 16384)) ⌝ }
+fn second_energy(base: i16, own: i16, cross: i16) -> i16
+    ensures { λ r. ⌜ r ≡ round (L-mac (L-mac (L-mult base (pos 8192)) own (pos 8192)) cross (pos 16384)) ⌝ }
 {
-    ((base as i32 + own as i32 + 2 * crossed as i32 + 2) >> 2) as i16
+    ((base as i32 + own as i32 + 2 * cross as i32 + 2) >> 2) as i16
 }
 
 fn third_energy(base: i16, own: i16, a: i16, b: i16) -> i16
@@ -343,7 +344,7 @@ fn fourth_energy(base: i16, own: i16, a: i16, b: i16, c: i16) -> i16
     ((16 * base as i32 + own as i32 + 2 * a as i32 + 2 * b as i32 + 2 * c as i32 + 8) >> 4) as i16
 }
 
-// The first of the eight that no later one exceeds; none where even the first does not.
+// The eight in order: one that exceeds the one held replaces it. Where none exceeds the first held, -1 over 1, none is found.
 fn best(
     correlation: &[i16; 40],
     squares: &[i16; 8],

@@ -1,15 +1,18 @@
--- The table is symmetric; a row of it, from the sums of all distances.
-use mathlib.Core.Path.{_≡_, refl, sym}
+-- The table is symmetric; a row of it, by its signs and from the sums of all distances.
+use mathlib.Core.Path.{_≡_, refl, sym, ap, _∙_}
 use mathlib.Core.Bool.{Bool, true, false}
 use mathlib.Core.List.{List}
 use Prim.Native.Nat.{ℕ, _+_, _-_, _<_, _≤_, min, max}
 use native.Mathlib.Omega.{arith}
 use lib.Dec.{eqb}
-use lib.IntN.{ℤ, *ℤ-comm}
+use lib.IntN.{ℤ, pos, *ℤ-comm}
+use lib.ListN.{length, set, length-set}
+use lib.Seq.{getD-set-same, getD-set-other}
 use borrow.Author.Tests.{eq-eqb, ne-eqb, eqb-true, eqb-false}
 use Rattle.fixed.specs.Operators.{mult, L-mult, round}
-use Rattle.fixed.specs.Lists.{at}
-use Rattle.fixed.proofs.Rows.{taken}
+use Rattle.fixed.specs.Lists.{at, tabulate}
+use Rattle.fixed.proofs.Lists.{filled-all, length-tabulate, at-tabulate}
+use Rattle.sums.proofs.Rows.{taken}
 use Rattle.codebook_matrix.specs.Matrices.{products, signed, entry}
 
 eqb-comm : (i j : ℕ) → eqb i j ≡ eqb j i
@@ -29,6 +32,24 @@ mirror ns signs i j =
     let a : max i j ≡ max j i = omega arith in
     let b : min i j ≡ min j i = omega arith in
     rw (a, b, eqb-comm i j, mult-comm (at signs i) (at signs j))
+
+-- ---- row j by its signs, and then its diagonal
+pub row-signed : (values signs row : List ℤ) (j : ℕ) (v : ℤ) → j < 40 → v ≡ at values j → row ≡ tabulate (λ i. mult (at values i) (mult (at signs i) (at signs j))) 40 →
+    set row j v ≡ tabulate (λ i. signed signs i j (at values i)) 40
+row-signed values signs row j v h ev er =
+    filled-all (λ i. signed signs i j (at values i)) (pos 0) 40 (set row j v) (length-set row j v ∙ n40) (λ i l. go i l (eqb i j) refl)
+  where
+    n40 : length row ≡ 40
+    n40 = ap length er ∙ length-tabulate (λ i. mult (at values i) (mult (at signs i) (at signs j))) (pos 0) 40
+
+    go : (i : ℕ) → i < 40 → (t : Bool) → eqb i j ≡ t → at (set row j v) i ≡ signed signs i j (at values i)
+    go i l true q =
+        let e = eqb-true i j q in
+        rw (q, e) (getD-set-same row j v (pos 0) (omega (arith, n40)) ∙ ev)
+    go i l false q =
+        rw q
+        (getD-set-other row j i v (pos 0) (eqb-false i j q) ∙ ap (λ (xs : List ℤ). at xs i) er
+        ∙ at-tabulate (λ i. mult (at values i) (mult (at signs i) (at signs j))) (pos 0) 40 i l)
 
 -- ---- the sums of all distances, side by side
 -- term k of the sum of a distance, and how many terms that sum has

@@ -2,5 +2,5 @@
 pub mod Filling
 pub mod Entries
 pub mod Sliding
-pub mod Crossing
+pub mod SignProducts
 pub mod Scaling

@@ -5,7 +5,7 @@ ghost use Prim.Native.Nat.{ℕ, _+_, _-_, _<_};
 ghost use lib.IntN.{pos, negsuc, natAbs, _*ℤ_};
 ghost use Rattle.fixed.specs.Operators.{mult, round, L-mult, L-shl};
 ghost use Rattle.fixed.specs.Lists.{at, tabulate};
-ghost use Rattle.fixed.proofs.Quiet.{squared};
+ghost use Rattle.sums.specs.Plain.{squared};
 ghost use Rattle.codebook_matrix.specs.Matrices.{energy, gain-of, scaled-by, normalised, signed, correlations, cor-h};
 
 const SUBFRAME_SAMPLES: usize = 40;
@@ -33,14 +33,14 @@ fn normalized(impulse: &[i16; 40]) -> [i16; 40]
     if fixed::high(energy) < 32767 {
         return scaled(impulse, gain(energy));
     }
-    fixed::shifted40(impulse, -1)
+    sums::shifted40(impulse, -1)
 }
 
 // Terms are not negative, so the start may be added last.
 fn energy(impulse: &[i16; 40]) -> i32
     ensures { λ r. ⌜ r ≡ energy (now (impulse .entry)) ⌝ }
 {
-    fixed::add32(fixed::energy40(impulse), INITIAL_ENERGY)
+    fixed::add32(sums::energy40(impulse), INITIAL_ENERGY)
 }
 
 fn gain(energy: i32) -> i16
@@ -74,18 +74,19 @@ fn scaled_word(word: i16, gain: i16) -> i16
 fn correlations(normalized: &[i16; 40], signs: &[i16; 40]) -> [[i16; 40]; 40]
     ensures { λ r. ⌜ r ≡ correlations (now (normalized .entry)) (now (signs .entry)) ⌝ }
 {
-    if all_full(signs) & (fixed::energy40(normalized) < ROOM) {
+    if all_full(signs) & (sums::energy40(normalized) < ROOM) {
         return plain_correlations(normalized, signs);
     }
     clipped_correlations(normalized, signs)
 }
 
-// From the last row up, every row whole. Sum 39 - d is that of distance d, sum 39 + d the same one d terms behind: what stands at (i, j) and at (j, i).
+// From the last row up. Sum 39 - d is that of distance d, and so those from k on are what row 39 - k has up to its diagonal; each value is stored at both of its places.
+// A row's rest is not stored: a fixed count is quicker than one that shrinks.
 fn plain_correlations(normalized: &[i16; 40], signs: &[i16; 40]) -> [[i16; 40]; 40]
     requires { ⌜ (squared (at (now normalized)) 40 < 1073725440) × ((i : ℕ) → i < 40 → natAbs (at (now signs) i) ≡ 32767) ⌝ }
     ensures { λ r. ⌜ r ≡ correlations (now (normalized .entry)) (now (signs .entry)) ⌝ }
 {
-    let reversed = reversed(normalized);
+    let reversed = sums::reversed40(normalized);
     let row = [0i16; 40];
     let mut table = [row; 40];
     let mut sums = [0i32; 80];
@@ -94,21 +95,19 @@ fn plain_correlations(normalized: &[i16; 40], signs: &[i16; 40]) -> [[i16; 40]; 
         for i in 0..40 {
             sums[k + i] = sums[k + i] + fixed::exact(word, reversed[i]);
         }
-        let values = rounded(&sums, k);
-        table[39 - k] = signed_row(&values, signs, signs[39 - k]);
-        table[39 - k][39 - k] = values[39 - k];
+        let j = 39 - k;
+        let rounded = rounded(&sums, k);
+        let mut values = signed_row(&rounded, signs, j);
+        values[j] = rounded[j];
+        let mut i = 0;
+        while i <= j {
+            let cell = values[i];
+            table[i][j] = cell;
+            table[j][i] = cell;
+            i += 1;
+        }
     }
     table
-}
-
-fn reversed(words: &[i16; 40]) -> [i16; 40]
-    ensures { λ r. ⌜ r ≡ tabulate (λ i. at (now (words .entry)) (39 - i)) 40 ⌝ }
-{
-    let mut list = [0i16; 40];
-    for i in 0..40 {
-        list[i] = words[39 - i];
-    }
-    list
 }
 
 // 40 sums from a place on, each half of a long.
@@ -146,36 +145,37 @@ fn is_full(sign: i16) -> bool
     fixed::unsigned_abs(sign as i32) == 32767
 }
 
-// The products of a row by the signs, also where a place meets itself.
-fn signed_row(values: &[i16; 40], signs: &[i16; 40], sign: i16) -> [i16; 40]
-    requires { ⌜ ((i : ℕ) → i < 40 → natAbs (at (now signs) i) ≡ 32767) × (natAbs sign ≡ 32767) ⌝ }
-    ensures { λ r. ⌜ r ≡ tabulate (λ i. mult (at (now (values .entry)) i) (mult (at (now (signs .entry)) i) sign)) 40 ⌝ }
+// The values of a row, each by the two signs of its places; also that of a place with itself, which has none.
+fn signed_row(values: &[i16; 40], signs: &[i16; 40], j: usize) -> [i16; 40]
+    requires { ⌜ (j < 40) × ((i : ℕ) → i < 40 → natAbs (at (now signs) i) ≡ 32767) ⌝ }
+    ensures { λ r. ⌜ r ≡ tabulate (λ i. mult (at (now (values .entry)) i) (mult (at (now (signs .entry)) i) (at (now (signs .entry)) j))) 40 ⌝ }
 {
+    let sign = signs[j];
     let mut row = [0i16; 40];
     for i in 0..40 {
-        row[i] = crossed(values[i], signs[i], sign);
+        row[i] = by_signs(values[i], signs[i], sign);
     }
     row
 }
 
 // By two signs of 32767, whose Q15 product is 32766 or -32767: words alone, no product.
-fn crossed(value: i16, a: i16, b: i16) -> i16
+fn by_signs(value: i16, a: i16, b: i16) -> i16
     requires { ⌜ (natAbs a ≡ 32767) × (natAbs b ≡ 32767) ⌝ }
     ensures { λ r. ⌜ r ≡ mult value (mult a b) ⌝ }
 {
     if a == b {
-        return by_same(value);
+        return by_equal_signs(value);
     }
-    by_other(value)
+    by_opposite_signs(value)
 }
 
-fn by_same(v: i16) -> i16
+fn by_equal_signs(v: i16) -> i16
     ensures { λ r. ⌜ r ≡ mult v (pos 32766) ⌝ }
 {
     v - ((v - (v >> 1) + 8191) >> 13)
 }
 
-fn by_other(v: i16) -> i16
+fn by_opposite_signs(v: i16) -> i16
     ensures { λ r. ⌜ r ≡ mult v (negsuc 32766) ⌝ }
 {
     (v >> 15) - v

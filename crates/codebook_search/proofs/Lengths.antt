@@ -6,8 +6,8 @@ use lib.IntN.{ℤ, pos}
 use lib.ListN.{length}
 use Rattle.fixed.proofs.Lists.{length-tabulate}
 use Rattle.codebook.proofs.ReadBack.{decode-length}
-use Rattle.codebook_target.specs.declared.SharpeningGain.{SharpeningGain}
-use Rattle.codebook_target.proofs.Sharpening.{sharpened-length}
+use Rattle.codebook_sharpening.specs.declared.SharpeningGain.{SharpeningGain}
+use Rattle.codebook_sharpening.proofs.Sharpening.{sharpened-length}
 use Rattle.codebook_search.specs.Pulses.{filtered, build-code, of-correlation, of-impulse, code-4i40-17bits}
 
 module _ (xs hs : List ℤ) (lag : ℕ) (gain : SharpeningGain) where

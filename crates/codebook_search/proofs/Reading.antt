@@ -16,15 +16,15 @@ use Rattle.codebook.specs.Words.{position-bits, slot, sign-bit}
 use Rattle.codebook.specs.Readers.{decode}
 use Rattle.codebook.proofs.ReadBack.{positions-fit, positions-back, signs-fit, signs-back, accepted-fits}
 use Rattle.codebook_target.proofs.Starting.{Of-track}
-use Rattle.codebook_target.specs.declared.SharpeningGain.{SharpeningGain}
-use Rattle.codebook_target.specs.Sharpenings.{doubled, sharpened}
+use Rattle.codebook_sharpening.specs.declared.SharpeningGain.{SharpeningGain}
+use Rattle.codebook_sharpening.specs.Sharpenings.{doubled, sharpened}
 use Rattle.codebook_target.specs.Targets.{cor-h-x}
 use Rattle.codebook_target.specs.Starts.{signs-of as set-signs, magnitudes-of, set-sign}
 use Rattle.codebook_matrix.specs.Matrices.{cor-h}
 use Rattle.codebook_search.specs.declared.PulseWords.{PulseWords}
 use Rattle.codebook_choice.specs.declared.Trial.{Trial}
 use Rattle.codebook_search.specs.Pulses.{positions-of, signs-of, by-track, placed, build-code, chosen, of-correlation, of-impulse, code-4i40-17bits}
-use Rattle.codebook_choice.proofs.Choosing.{In-tracks, Rotated, Spread, search-spread}
+use Rattle.codebook_choice.proofs.Choosing.{In-tracks, Permuted, Spread, search-spread}
 
 -- what a decoder reads of these places
 abbrev pub Read : List ℤ → Places → Outcome Places (List ℤ)
@@ -48,10 +48,10 @@ module _ (signs out : List ℤ) (lo : length out ≡ 40) (p q r s : ℕ) (hp : O
   slot-s : slot s ≡ 3
   slot-s = omega (arith, ts)
 
-  in-turn : decode (position-bits p + position-bits q + position-bits r + position-bits s) (bit-of signs p + bit-of signs q + bit-of signs r + bit-of signs s) out
+  read-sorted : decode (position-bits p + position-bits q + position-bits r + position-bits s) (bit-of signs p + bit-of signs q + bit-of signs r + bit-of signs s) out
       ≡ Read signs (record { first = p; second = q; third = r; last = s })
   unfolding decode
-  in-turn =
+  read-sorted =
       let b = signs-back (ltZ (pos 0) (at signs p)) (ltZ (pos 0) (at signs q)) (ltZ (pos 0) (at signs r)) (ltZ (pos 0) (at signs s)) p q r s slot-p slot-q slot-r slot-s in
       let f = signs-fit (ltZ (pos 0) (at signs p)) (ltZ (pos 0) (at signs q)) (ltZ (pos 0) (at signs r)) (ltZ (pos 0) (at signs s)) p q r s slot-p slot-q slot-r slot-s in
       let e = positions-back p q r s (hp .1) (hq .1) (hr .1) hs (hp .0) (hq .0) (hr .0) ts in
@@ -71,7 +71,7 @@ module _ (t : Trial) (signs out : List ℤ) (lo : length out ≡ 40) where
   sorted p q r s hp hq hr hs ts x y e =
       ap (λ (w : ℕ). decode w (signs-of t signs) out) x
       ∙ ap (λ (w : ℕ). decode (position-bits p + position-bits q + position-bits r + position-bits s) w out) y
-      ∙ in-turn signs out lo p q r s hp hq hr hs ts
+      ∙ read-sorted signs out lo p q r s hp hq hr hs ts
       ∙ ap (Read signs) (sym e)
 
   module _ (l : ℕ) (h : 3 ≤ l) where
@@ -107,11 +107,11 @@ module _ (t : Trial) (signs out : List ℤ) (lo : length out ≡ 40) where
         let c : slot (t .third) ≡ 3 = omega (arith, i .2 .0, h) in
         sorted (t .fourth) (t .first) (t .second) (t .third) (i .3) (i .0) (i .1) (i .2 .1) (omega (arith, i .2 .0)) (omega arith) (omega arith) (rw (a, b, c))
 
-    rotated : Rotated l t → Back
-    rotated r = ⊎-elim from-0 (λ r₁. ⊎-elim from-last (λ r₂. ⊎-elim from-2 from-1 r₂) r₁) r
+    permuted : Permuted l t → Back
+    permuted r = ⊎-elim from-0 (λ r₁. ⊎-elim from-last (λ r₂. ⊎-elim from-2 from-1 r₂) r₁) r
 
   pub spread-back : Spread t → Back
-  spread-back s = ⊎-elim (rotated 3 (omega arith)) (rotated 4 (omega arith)) s
+  spread-back s = ⊎-elim (permuted 3 (omega arith)) (permuted 4 (omega arith)) s
 
 -- of every search, with any list lent: the reader reads its four places with their signs
 module _ (xs hs : List ℤ) (lag : ℕ) (gain : SharpeningGain) where

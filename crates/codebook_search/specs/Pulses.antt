@@ -13,8 +13,8 @@ use Rattle.refusal.specs.Checks.{Outcome, unless-refused, length-is, pulse-lag}
 use Rattle.codebook.specs.Words.{position-bits, slot, sign-bit}
 use Rattle.codebook.specs.declared.Places.{Places}
 use Rattle.codebook.specs.Readers.{decode}
-use Rattle.codebook_target.specs.declared.SharpeningGain.{SharpeningGain}
-use Rattle.codebook_target.specs.Sharpenings.{doubled, sharpened}
+use Rattle.codebook_sharpening.specs.declared.SharpeningGain.{SharpeningGain}
+use Rattle.codebook_sharpening.specs.Sharpenings.{doubled, sharpened}
 use Rattle.codebook_target.specs.Targets.{cor-h-x}
 use Rattle.codebook_target.specs.Starts.{signs-of as set-signs, magnitudes-of, set-sign}
 use Rattle.codebook_matrix.specs.Matrices.{cor-h}
@@ -120,14 +120,14 @@ pulses xs hs lag gain out =
 
 -- ---- what a decoder reads: these speak of the round trip alone (proofs/Reading.antt)
 -- the pulse in a slot: tracks 0, 1, 2, and 3 or 4
-abbrev pub the-one : Trial → ℕ → ℕ
-the-one t k =
+abbrev pub in-slot : Trial → ℕ → ℕ
+in-slot t k =
     cond (eqb (slot (t .first)) k) (t .first)
     (cond (eqb (slot (t .second)) k) (t .second) (cond (eqb (slot (t .third)) k) (t .third) (t .fourth)))
 
 -- the four pulses by their tracks
 abbrev pub by-track : Trial → Places
-by-track t = record { first = the-one t 0; second = the-one t 1; third = the-one t 2; last = the-one t 3 }
+by-track t = record { first = in-slot t 0; second = in-slot t 1; third = in-slot t 2; last = in-slot t 3 }
 
 -- a pulse with the sign of its place
 abbrev pub pulse-at : List ℤ → ℕ → ℤ

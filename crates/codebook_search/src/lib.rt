@@ -1,25 +1,20 @@
 // The pulse search, TS 26.073 code_4i40_17bits, from codebook/search.rs.
 use codebook_choice::Trial;
-use codebook_target::SharpeningGain;
+use codebook_sharpening::SharpeningGain;
 use refusal::Refusal;
 ghost use mathlib.Core.Path.{_≡_};
-ghost use Prim.Native.Nat.{_<_, _≤_, _^_};
+ghost use Prim.Native.Nat.{_<_};
 ghost use lib.IntN.{pos};
 ghost use lib.Signed.{ltZ};
 ghost use Rattle.fixed.specs.Lists.{at};
-ghost use Rattle.codebook.specs.Gray.{gray};
-ghost use Rattle.codebook.specs.Words.{position-bits, slot, sign-bit};
+ghost use Rattle.codebook.specs.Words.{sign-bit};
 ghost use Rattle.codebook_search.specs.Pulses.{positions-of, signs-of, full-sign, delayed, through, filtered-at, filtered, build-code, code-4i40-17bits, told-words, lent, pulses};
 
 const SUBFRAME_SAMPLES: usize = 40;
 
-const TRACKS: usize = 5;
-
 const MIN_LAG: u16 = 19;
 
 const MAX_LAG: u16 = 144;
-
-const GRAY: [u16; 8] = [0, 1, 3, 2, 6, 4, 5, 7];
 
 pub struct PulseWords {
     pub positions: u16,
@@ -72,8 +67,8 @@ pub fn search(
         return Pulses::Refused(Refusal::PulseLag(lag));
     }
     let found = searched(
-        &fixed::forty(target),
-        &fixed::forty(impulse_q12),
+        &sums::forty(target),
+        &sums::forty(impulse_q12),
         lag as usize,
         pitch_sharp_q14,
     );
@@ -84,9 +79,9 @@ pub fn search(
     let innovation_words: &[i16] = &innovation;
     let filtered_words: &[i16] = &filtered;
     let impulse_words: &[i16] = &impulse;
-    fixed::copy(innovation_words, innovation_q13);
-    fixed::copy(filtered_words, filtered_q12);
-    fixed::copy(impulse_words, sharpened_impulse_q12);
+    sums::copy(innovation_words, innovation_q13);
+    sums::copy(filtered_words, filtered_q12);
+    sums::copy(impulse_words, sharpened_impulse_q12);
     Pulses::Words(words)
 }
 
@@ -98,15 +93,15 @@ fn searched(
 ) -> SearchResult
     ensures { λ r. ⌜ r ≡ code-4i40-17bits (now (target .entry)) (now («impulse_q12» .entry)) lag gain ⌝ }
 {
-    let sharp = codebook_target::doubled(gain);
-    let impulse = codebook_target::sharpened(impulse_q12, lag, sharp);
+    let sharp = codebook_sharpening::doubled(gain);
+    let impulse = codebook_sharpening::sharpened(impulse_q12, lag, sharp);
     let correlation = codebook_target::target_correlation(target, &impulse);
     let signs = codebook_target::signs(&correlation);
     let magnitudes = codebook_target::magnitudes(&correlation);
     let left = codebook_target::starts(&magnitudes);
     let table = codebook_matrix::impulse_correlation(&impulse, &signs);
     written(
-        codebook_choice::select(&magnitudes, &table, &left),
+        codebook_choice::select(&magnitudes, table, &left),
         &impulse,
         &signs,
         lag,
@@ -135,35 +130,19 @@ fn written(
             positions,
             signs: sign_bits,
         },
-        innovation_q13: codebook_target::sharpened(&samples, lag, sharp_q15),
+        innovation_q13: codebook_sharpening::sharpened(&samples, lag, sharp_q15),
         filtered_q12: filtered(chosen, impulse, signs),
         sharpened_impulse_q12: *impulse,
     }
 }
 
 fn positions_of(chosen: Trial) -> u16
-    requires { ⌜ (chosen .first < 40) × (chosen .second < 40) × (chosen .third < 40) × (chosen .fourth < 40) ⌝ }
     ensures { λ r. ⌜ r ≡ positions-of chosen ⌝ }
 {
-    let table = GRAY;
-    position_bits(chosen.first, &table)
-        + position_bits(chosen.second, &table)
-        + position_bits(chosen.third, &table)
-        + position_bits(chosen.fourth, &table)
-}
-
-fn position_bits(place: usize, table: &[u16; 8]) -> u16
-    requires { ⌜ (now table ≡ gray) × (place < 40) ⌝ }
-    ensures { λ r. ⌜ (r ≡ position-bits place) × (r ≤ 7680) ⌝ }
-{
-    let number = table[place / TRACKS];
-    match place % TRACKS {
-        0 => number,
-        1 => number * 8,
-        2 => number * 64,
-        3 => number * 1024,
-        _ => number * 1024 + 512,
-    }
+    codebook::position_bits(chosen.first)
+        + codebook::position_bits(chosen.second)
+        + codebook::position_bits(chosen.third)
+        + codebook::position_bits(chosen.fourth)
 }
 
 fn signs_of(chosen: Trial, signs: &[i16; 40]) -> u16
@@ -178,23 +157,9 @@ fn signs_of(chosen: Trial, signs: &[i16; 40]) -> u16
 
 fn sign_bit(signs: &[i16; 40], place: usize) -> u16
     requires { ⌜ place < 40 ⌝ }
-    ensures { λ r. ⌜ (r ≡ sign-bit (ltZ (pos 0) (at (now (signs .entry)) place)) place) × (r ≤ 8) ⌝ }
+    ensures { λ r. ⌜ r ≡ sign-bit (ltZ (pos 0) (at (now (signs .entry)) place)) place ⌝ }
 {
-    if 0 < signs[place] {
-        return bit(place);
-    }
-    0
-}
-
-fn bit(place: usize) -> u16
-    ensures { λ r. ⌜ (r ≡ 2 ^ slot place) × (r ≤ 8) ⌝ }
-{
-    match place % TRACKS {
-        0 => 1,
-        1 => 2,
-        2 => 4,
-        _ => 8,
-    }
+    codebook::sign_bit(0 < signs[place], place)
 }
 
 // In the order of the choice, clipped after every addition.

@@ -1,4 +1,3 @@
 -- The laws that belong to no one function.
-pub mod Sharpening
 pub mod Starting
-pub mod Followed
+pub mod Correlating

@@ -1,2 +1,2 @@
--- Target filtering, TS 26.073 subframePreProc at 7.4 kbit/s: what the contracts of `encoder_filtering` cite.
+-- The entries of target filtering: what the contracts of `encoder_filtering` cite.
 pub mod Subframes

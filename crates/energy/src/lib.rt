@@ -69,7 +69,7 @@ pub fn inverse_table() -> [u16; 49]
     INVERSE_TABLE
 }
 
-// The same with the table lent, for a caller that takes many roots: a `const` is laid out anew at each place that reads it.
+// The same with the table lent, for a caller that takes many roots: a `const` is written anew at each place that reads it.
 pub fn inverse_sqrt_in(value: i32, table: &[u16; 49]) -> i32
     ensures { λ r. ⌜ r ≡ Inv-sqrt-in (now (table .entry)) value ⌝ }
 {
@@ -86,7 +86,7 @@ fn positive_root(u: u32, table: &[u16; 49]) -> i32
     let shift = u32::leading_zeros(u) - 1;
     let m = even_exponent_halved(u << shift, 30 - shift);
     let i = (m / 33554432 - 16) as usize;
-    let line = fixed::interpolated(table[i], table[i + 1], m);
+    let line = compound::interpolated(table[i], table[i + 1], m);
     (line >> ((30 - shift) / 2 + 1)) as i32
 }
 

@@ -15,7 +15,7 @@ use Rattle.fixed.specs.Operators.{extract-l, remainder}
 use Rattle.fixed.proofs.Clips.{contradiction}
 use Rattle.fixed.proofs.Signs.{sub-le, pos-sub, sub-above, remainder-lt}
 use Rattle.fixed.proofs.Lists.{length-tabulate}
-use Rattle.feed.specs.Words.{word-at, words, words-into, turned}
+use Rattle.feed.specs.Words.{word-at, words, words-into, swapped}
 
 pub words-read : (bytes : List ℕ) (from n : ℕ) (xs : List ℤ) → length xs ≡ n → from + 2 * n ≤ length bytes → words-into bytes from xs ≡ words bytes from n
 unfolding words-into
@@ -52,10 +52,10 @@ bits-of-word n h = go (ltb n 32768) refl
         let e : (n + 32768) % 65536 ≡ n - 32768 = omega arith in
         rw (e, sub-above (n - 32768) 32768 (omega arith)) (omega arith)
 
--- a word of two bytes, turned
-pub turned-word : (a b : ℕ) → a < 256 → b < 256 → turned (extract-l (pos (b * 256 + a))) ≡ extract-l (pos (a * 256 + b))
-unfolding turned
-turned-word a b h l =
+-- a word of two bytes, exchanged
+pub swapped-word : (a b : ℕ) → a < 256 → b < 256 → swapped (extract-l (pos (b * 256 + a))) ≡ extract-l (pos (a * 256 + b))
+unfolding swapped
+swapped-word a b h l =
     let n = b * 256 + a in
     let e : n % 256 ≡ a = omega arith in
     let f : n / 256 ≡ b = omega arith in

@@ -17,8 +17,8 @@ abbrev pub word-at : List ℕ → ℕ → ℤ
 word-at bytes at = extract-l (pos (number-at bytes at))
 
 -- a word with its two bytes exchanged
-unfoldable pub turned : ℤ → ℤ
-turned v = extract-l (pos (remainder v 65536 % 256 * 256 + remainder v 65536 / 256))
+unfoldable pub swapped : ℤ → ℤ
+swapped v = extract-l (pos (remainder v 65536 % 256 * 256 + remainder v 65536 / 256))
 
 -- n words from a place on
 unfoldable pub words : List ℕ → ℕ → ℕ → List ℤ

@@ -7,7 +7,7 @@ ghost use lib.ListN.{length};
 ghost use Rattle.fixed.specs.Operators.{extract-l, remainder};
 ghost use Rattle.fixed.specs.Lists.{at, tabulate};
 ghost use Rattle.feed.specs.Records.{told-header, body-length, header, body};
-ghost use Rattle.feed.specs.Words.{words, words-into, turned};
+ghost use Rattle.feed.specs.Words.{words, words-into, swapped};
 
 const LAST_KIND: u8 = 6;
 
@@ -78,37 +78,37 @@ pub fn read_words(body: &[u8], from: usize, list: &mut [i16])
     if (body.len() - from) / 2 < list.len() {
         return;
     }
-    lay(body, from, list);
-    turn(list);
+    copy_low_first(body, from, list);
+    swap_all(list);
 }
 
 // The bytes as they lie, the first of a word as its low one: a copy, which the machine makes in one piece.
-fn lay(body: &[u8], from: usize, list: &mut [i16])
+fn copy_low_first(body: &[u8], from: usize, list: &mut [i16])
     requires { ⌜ from + 2 * length (now list) ≤ length (now body) ⌝ }
-    ensures { λ r. ⌜ tabulate (λ k. turned (at (now (list .exit)) k)) (length (now (list .entry))) ≡ words (now (body .entry)) from (length (now (list .entry))) ⌝ }
+    ensures { λ r. ⌜ tabulate (λ k. swapped (at (now (list .exit)) k)) (length (now (list .entry))) ≡ words (now (body .entry)) from (length (now (list .entry))) ⌝ }
 {
     for i in 0..list.len() {
-        list[i] = laid(body[from + 2 * i], body[from + 2 * i + 1]);
+        list[i] = low_first(body[from + 2 * i], body[from + 2 * i + 1]);
     }
 }
 
-fn laid(first: u8, second: u8) -> i16
-    ensures { λ r. ⌜ turned r ≡ extract-l (pos (first * 256 + second)) ⌝ }
+fn low_first(first: u8, second: u8) -> i16
+    ensures { λ r. ⌜ swapped r ≡ extract-l (pos (first * 256 + second)) ⌝ }
 {
     fixed::word(second, first)
 }
 
-fn turn(list: &mut [i16])
-    ensures { λ r. ⌜ now (list .exit) ≡ tabulate (λ k. turned (at (now (list .entry)) k)) (length (now (list .entry))) ⌝ }
+fn swap_all(list: &mut [i16])
+    ensures { λ r. ⌜ now (list .exit) ≡ tabulate (λ k. swapped (at (now (list .entry)) k)) (length (now (list .entry))) ⌝ }
 {
     for i in 0..list.len() {
-        list[i] = turned(list[i]);
+        list[i] = swap_bytes(list[i]);
     }
 }
 
 // A word with its bytes exchanged.
-fn turned(v: i16) -> i16
-    ensures { λ r. ⌜ r ≡ turned v ⌝ }
+fn swap_bytes(v: i16) -> i16
+    ensures { λ r. ⌜ r ≡ swapped v ⌝ }
 {
     let bits = bits_of(v);
     fixed::word((bits % 256) as u8, (bits / 256) as u8)

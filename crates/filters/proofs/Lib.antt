@@ -1,4 +1,3 @@
 -- The laws that belong to no one function.
 pub mod Tappings
-pub mod Plainly
 pub mod Lengths

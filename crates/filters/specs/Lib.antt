@@ -1,3 +1,2 @@
--- Linear prediction filters, TS 26.073 Weight_Ai, Residu and Syn_filt: what the contracts of `filters` cite.
+-- The linear prediction filter A(z), TS 26.073 Weight_Ai and Residu: what the contracts of `filters` cite.
 pub mod Filters
-pub mod Plain

@@ -7,12 +7,6 @@ pub mod Norms
 pub mod Lines
 pub mod Tables
 pub mod Lists
-pub mod Sums
-pub mod Rows
 pub mod Choices
-pub mod Plain
-pub mod Quiet
-pub mod Reach
 pub mod Products
 pub mod LowBits
-pub mod Overflows

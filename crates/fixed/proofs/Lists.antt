@@ -10,7 +10,7 @@ use lib.ListN.{length, getD, set, replicate, getD-replicate, length-set}
 use lib.Seq.{ext-getD, getD-set-same, getD-set-other}
 use borrow.Author.Count.{below-more}
 use borrow.Author.Tests.{eq-eqb, le-leb, lt-ltb, le-ltb, leb-true, ltb-true, ltb-false, eqb-true, eqb-false}
-use Rattle.fixed.specs.Lists.{at, tabulate-from, tabulate, part, copied, between}
+use Rattle.fixed.specs.Lists.{tabulate-from, tabulate, copied, between}
 
 module _ {A : Type 0} (f : ℕ → A) (d : A) where
   length-from : (i n : ℕ) → length (tabulate-from i f n) ≡ n
@@ -57,12 +57,6 @@ module _ (f : ℕ → ℤ) (n : ℕ) where
 
   pub filling-all : (i : ℕ) (xs : List ℤ) → n ≤ i → Filling i xs → xs ≡ tabulate f n
   filling-all i xs h p = filled-all f (pos 0) n xs (p .1) (λ k l. p .2 k (omega arith))
-
--- the words from place 0 of a list that has no more are the list
-pub part-whole : (n : ℕ) (xs : List ℤ) → length xs ≡ n → part xs 0 n ≡ xs
-unfolding part
-part-whole n xs e =
-    sym (filled-all (λ k. at xs (0 + k)) (pos 0) n xs e (λ k l. let z : k ≡ 0 + k = omega arith in ap (at xs) z))
 
 -- a list copied into one of its length
 pub copied-whole : (n : ℕ) (xs ys : List ℤ) → length xs ≡ n → length ys ≡ n → copied xs ys ≡ xs

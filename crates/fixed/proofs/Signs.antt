@@ -126,12 +126,12 @@ module _ {A : Type 0} (a : A) (f : ℕ → A) where
   is-positive (negsuc n) e = contradiction (sym e)
 
 -- ---- one order from the other
-turned : (a b : ℕ) (t : Bool) → ltb a b ≡ t → leb b a ≡ not t
-turned a b true e = lt-leb b a (ltb-true a b e)
-turned a b false e = le-leb b a (ltb-false a b e)
+le-from-lt : (a b : ℕ) (t : Bool) → ltb a b ≡ t → leb b a ≡ not t
+le-from-lt a b true e = lt-leb b a (ltb-true a b e)
+le-from-lt a b false e = le-leb b a (ltb-false a b e)
 
 pub le-not-lt : (a b : ℤ) (t : Bool) → ltZ a b ≡ t → leZ b a ≡ not t
-le-not-lt (pos a) (pos b) t e = turned a b t e
+le-not-lt (pos a) (pos b) t e = le-from-lt a b t e
 le-not-lt (pos a) (negsuc b) t e = ap not e
 le-not-lt (negsuc a) (pos b) t e = ap not e
-le-not-lt (negsuc a) (negsuc b) t e = turned b a t e
+le-not-lt (negsuc a) (negsuc b) t e = le-from-lt b a t e

@@ -1,16 +1,13 @@
 // Words (i16) and longs (i32) in fixed point: TS 26.073's basic operators as small functions that take every value.
 // The Rust repeats them in every file; here they have one home. Each is equated with a number of the integers (specs/Operators.antt).
 ghost use mathlib.Core.Path.{_≡_};
-ghost use Prim.Native.Nat.{_+_, _<_, _≤_, _*_, _^_, min};
+ghost use Prim.Native.Nat.{_+_, _*_, _^_, min};
 ghost use lib.IntN.{pos, natAbs, _*ℤ_};
-ghost use lib.ListN.{replicate};
 ghost use lib.Signed.{mag, shrZ};
 ghost use Rattle.fixed.specs.Clip.{clip};
-ghost use Rattle.fixed.specs.Operators.{add, sub, negate, abs-s, L-add, L-sub, L-negate, L-abs, L-mult, L-mac, L-msu, L-mac-flagged, mult, extract-h, round, extract-l, L-deposit-h, low-half, L-Extract, Mpy-32, Mpy-32-16, L-shl, shl, even-bits, norm-l, div-s};
-ghost use Rattle.fixed.specs.Line.{line};
-ghost use Rattle.fixed.specs.Lists.{dot, shifted, copied};
+ghost use Rattle.fixed.specs.Operators.{add, sub, negate, abs-s, L-add, L-sub, L-negate, L-abs, L-mult, L-mac, L-msu, mult, extract-h, round, extract-l, L-deposit-h, L-shl, shl, even-bits, norm-l};
 
-// ---- Clipping: the only two functions that test for a type's ends.
+// ---- Clipping to the ends of a type.
 
 pub fn clip16(v: i32) -> i16
     ensures { λ r. ⌜ r ≡ clip 15 v ⌝ }
@@ -96,6 +93,13 @@ pub fn absolute32(v: i32) -> i32
 
 // ---- Products of words.
 
+// Not doubled: a product of two words fits a long.
+pub fn exact(a: i16, b: i16) -> i32
+    ensures { λ r. ⌜ r ≡ a *ℤ b ⌝ }
+{
+    a as i32 * b as i32
+}
+
 // Only -32768 by -32768 is too great when doubled, and one test of the product finds it.
 pub fn product(a: i16, b: i16) -> i32
     ensures { λ r. ⌜ r ≡ L-mult a b ⌝ }
@@ -125,28 +129,11 @@ pub struct Flagged {
     pub overflow: bool,
 }
 
-pub fn mac_flagged(sum: i32, a: i16, b: i16) -> Flagged
-    ensures { λ r. ⌜ r ≡ L-mac-flagged sum a b ⌝ }
-{
-    let wide = sum as i64 + product(a, b) as i64;
-    Flagged {
-        value: clip32(wide),
-        overflow: (1073741823 < exact(a, b)) | ((2147483647 < wide) | (wide < -2147483648)),
-    }
-}
-
 // The Q15 product.
 pub fn fractional(a: i16, b: i16) -> i16
     ensures { λ r. ⌜ r ≡ mult a b ⌝ }
 {
     clip16((a as i32 * b as i32) >> 15)
-}
-
-// The high word of the doubled product shifted to the left by n places, n held at 15: one product, one shift, one clip.
-pub fn product_high(a: i16, b: i16, n: u32) -> i16
-    ensures { λ r. ⌜ r ≡ extract-h (L-shl (L-mult a b) (pos (min n 15))) ⌝ }
-{
-    clip16((a as i32 * b as i32) >> (15 - at_most(n, 15)))
 }
 
 // ---- The words of a long.
@@ -185,7 +172,7 @@ pub fn deposit_high(v: i16) -> i32
     v as i32 * 65536
 }
 
-// ---- A long as two halves, and the products by them.
+// ---- A long as two halves: the high word and the 15 bits below it.
 
 #[repr(C)]
 pub struct Halves {
@@ -193,40 +180,9 @@ pub struct Halves {
     pub low: i16,
 }
 
-// The 15 bits below the high word.
-fn low(v: i32) -> i16
-    ensures { λ r. ⌜ r ≡ low-half v ⌝ }
-{
-    ((v >> 1) - (v >> 16) * 32768) as i16
-}
-
-pub fn split(v: i32) -> Halves
-    ensures { λ r. ⌜ r ≡ L-Extract v ⌝ }
-{
-    Halves {
-        high: high(v),
-        low: low(v),
-    }
-}
-
-pub fn multiply(a: i32, b: i32) -> i32
-    ensures { λ r. ⌜ r ≡ Mpy-32 a b ⌝ }
-{
-    let ah = high(a);
-    let bh = high(b);
-    let upper = mac(product(ah, bh), fractional(ah, low(b)), 1);
-    mac(upper, fractional(low(a), bh), 1)
-}
-
-pub fn multiply_word(a: i32, n: i16) -> i32
-    ensures { λ r. ⌜ r ≡ Mpy-32-16 a n ⌝ }
-{
-    mac(product(high(a), n), fractional(low(a), n), 1)
-}
-
 // ---- Counts and magnitudes.
 
-fn at_most(n: u32, most: u32) -> u32
+pub fn at_most(n: u32, most: u32) -> u32
     ensures { λ r. ⌜ r ≡ min n most ⌝ }
 {
     if n < most {
@@ -306,102 +262,4 @@ pub fn normalize(v: i32) -> i16
         return 0;
     }
     (u32::leading_zeros(magnitude(v)) - 1) as i16
-}
-
-// ---- Quotients and straight lines.
-
-// The division of `pitch_gain`: a / b in Q15.
-pub fn divide(a: i16, b: i16) -> i16
-    ensures { λ r. ⌜ r ≡ div-s a b ⌝ }
-{
-    if a < 0 {
-        return 0;
-    }
-    if b < 1 {
-        return 0;
-    }
-    at_most(
-        unsigned_abs(a as i32) * 32768 / unsigned_abs(b as i32),
-        32767,
-    ) as i16
-}
-
-// The point of the straight line from one entry of a table to the next that bits 10 to 24 of `m` tell, times 65536.
-pub fn interpolated(from: u16, to: u16, m: u32) -> u32
-    ensures { λ r. ⌜ r ≡ line from to m ⌝ }
-{
-    let way = m / 1024 % 32768;
-    2 * (from as u32 * (32768 - way) + to as u32 * way)
-}
-
-// ---- Sums over 40 words, a subframe.
-
-// Terms are not negative, so the sum is clipped once. Two squares are added before they are widened.
-pub fn energy40(x: &[i16; 40]) -> i32
-    ensures { λ r. ⌜ r ≡ dot (now (x .entry)) (now (x .entry)) 40 ⌝ }
-{
-    let mut sum: u64 = 0;
-    for i in 0..20 {
-        sum = sum + (square(x[i]) + square(x[20 + i])) as u64;
-    }
-    if 1073741823 < sum {
-        return 2147483647;
-    }
-    (2 * sum) as i32
-}
-
-fn square(v: i16) -> u32
-    ensures { λ r. ⌜ (r ≡ natAbs v * natAbs v) × (r ≤ 2 ^ 30) ⌝ }
-{
-    exact(v, v) as u32
-}
-
-pub fn exact(a: i16, b: i16) -> i32
-    ensures { λ r. ⌜ r ≡ a *ℤ b ⌝ }
-{
-    a as i32 * b as i32
-}
-
-pub fn dot40(x: &[i16; 40], y: &[i16; 40]) -> i32
-    ensures { λ r. ⌜ r ≡ dot (now (x .entry)) (now (y .entry)) 40 ⌝ }
-{
-    let mut sum: i32 = 0;
-    for i in 0..40 {
-        sum = mac(sum, x[i], y[i]);
-    }
-    sum
-}
-
-// ---- Lists.
-
-// The words of a list of 40; 40 zeros for a list of another length.
-pub fn forty(list: &[i16]) -> [i16; 40]
-    ensures { λ r. ⌜ r ≡ copied (now (list .entry)) (replicate 40 (pos 0)) ⌝ }
-{
-    let mut words = [0i16; 40];
-    copy(list, &mut words);
-    words
-}
-
-// 40 words, each shifted by a signed count.
-pub fn shifted40(x: &[i16; 40], count: i16) -> [i16; 40]
-    ensures { λ r. ⌜ r ≡ shifted (now (x .entry)) count 40 ⌝ }
-{
-    let mut words = [0i16; 40];
-    for i in 0..40 {
-        words[i] = shift_word(x[i], count);
-    }
-    words
-}
-
-// Into a lent list of the same length; one of another length stays as it was.
-pub fn copy(words: &[i16], list: &mut [i16])
-    ensures { λ r. ⌜ now (list .exit) ≡ copied (now (words .entry)) (now (list .entry)) ⌝ }
-{
-    if words.len() != list.len() {
-        return;
-    }
-    for i in 0..words.len() {
-        list[i] = words[i];
-    }
 }

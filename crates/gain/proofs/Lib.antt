@@ -1,4 +1,2 @@
 -- The laws that belong to no one function.
-pub mod Leasts
-pub mod Terms
 pub mod Chosen

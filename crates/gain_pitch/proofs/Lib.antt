@@ -1,4 +1,3 @@
 -- The laws that belong to no one function.
 pub mod Ranges
-pub mod Plains
-pub mod Squares
+pub mod Overflowed

@@ -13,9 +13,10 @@ use Rattle.fixed.specs.Operators.{L-add, sub, round, extract-h, shift-at, shl, 
 use Rattle.fixed.proofs.Bounds.{either, ok, high-fits}
 use Rattle.fixed.proofs.Clips.{contradiction, clip-fits}
 use Rattle.fixed.proofs.Norms.{normal-range}
-use Rattle.fixed.proofs.Sums.{squares, energy-from}
+use Rattle.sums.proofs.Sums.{squares, energy-from}
+use Rattle.gain_sums.specs.Sums.{sum, overflow, flagged-sum}
 use Rattle.gain_pitch.specs.declared.ScaledWord.{ScaledWord}
-use Rattle.gain_pitch.specs.Gains.{sum, overflow, normalized, quarters, scalar-product, energy, correlation, quotient, gain}
+use Rattle.gain_pitch.specs.Gains.{normalized, quarters, unless-overflow, energy, correlation, quotient, gain}
 
 -- ---- the normalised energy is at least 16384
 -- a positive long
@@ -31,7 +32,7 @@ unfolding sum
 energy-sum zs lowered = rw (energy-from 1 zs 40 (omega arith)) (normal-word (min (1 + 2 * squares zs 40) 2147483647) lowered (omega arith) (omega arith))
 
 pub energy-word : (ys : List ℤ) → pos 16384 ≤ℤ energy ys .word
-unfolding scalar-product
+unfolding unless-overflow flagged-sum
 energy-word ys =
     let qs = quarters ys in
     either (λ (s : ScaledWord). pos 16384 ≤ℤ s .word) (overflow ys ys 40) (normalized (sum qs qs 40) (pos 4)) (normalized (sum ys ys 40) (pos 0))
@@ -47,7 +48,7 @@ unfolding round extract-h L-add
 round-fits v = high-fits (ok w32 (clip 31 (v +ℤ pos 32768)) (clip-fits 31 (v +ℤ pos 32768))) .sfits
 
 correlation-fits : (xs ys : List ℤ) → mag (correlation xs ys .word) < 2 ^ 15
-unfolding scalar-product normalized
+unfolding unless-overflow flagged-sum normalized
 correlation-fits xs ys =
     either (λ (s : ScaledWord). mag (s .word) < 2 ^ 15) (overflow xs ys 40) (normalized (sum xs (quarters ys) 40) (pos 2)) (normalized (sum xs ys 40) (pos 0))
     (round-fits _) (round-fits _)

@@ -1,42 +1,27 @@
 -- TS 26.073 G_pitch: the gain of the pitch, and the normalised energy and correlation that it comes from.
-use mathlib.Core.Bool.{Bool, false, cond, _||_}
+use mathlib.Core.Bool.{cond}
 use mathlib.Core.List.{List, [], _∷_}
-use Prim.Native.Nat.{ℕ, zero, suc}
 use lib.IntN.{ℤ, pos, negsuc}
 use lib.Signed.{ltZ}
 use Rattle.fixed.specs.declared.Flagged.{Flagged}
-use Rattle.fixed.specs.Operators.{sub, L-mult, L-mac-overflow, round, L-shl, shl, norm-l, div-s}
-use Rattle.fixed.specs.Lists.{at, shifted, L-sum}
+use Rattle.fixed.specs.Operators.{sub, round, L-shl, shl, norm-l, div-s}
+use Rattle.fixed.specs.Lists.{shifted}
 use Rattle.refusal.specs.Refused.{Told, values, refused, turned-down}
 use Rattle.refusal.specs.Checks.{checked, length-is}
+use Rattle.gain_sums.specs.Sums.{flagged-sum}
 use Rattle.gain_pitch.specs.declared.ScaledWord.{ScaledWord}
 use Rattle.gain_pitch.specs.declared.PitchGain.{PitchGain}
-use Rattle.gain_pitch.specs.declared.Gained.{Gained}
-use Rattle.gain_pitch.specs.declared.Gained.the-variants.{Gain, Refused}
-
--- ---- the sums
--- 's = 1L; // Avoid case of all zeros', then L_mac at each of n places
-unfoldable pub sum : List ℤ → List ℤ → ℕ → ℤ
-sum xs ys n = L-sum (pos 1) (λ k. L-mult (at xs k) (at ys k)) n
-
--- 'Overflow' after them
-unfoldable pub overflow : List ℤ → List ℤ → ℕ → Bool
-overflow xs ys zero = false
-overflow xs ys (suc n) = overflow xs ys n || L-mac-overflow (sum xs ys n) (at xs n) (at ys n)
-
--- both
-unfoldable pub flagged-sum : List ℤ → List ℤ → ℕ → Flagged
-flagged-sum xs ys n = record { value = sum xs ys n; overflow = overflow xs ys n }
+use Rattle.gain_pitch.specs.declared.FoundGain.{FoundGain}
+use Rattle.gain_pitch.specs.declared.FoundGain.the-variants.{Gain, Refused}
 
 -- ---- a long with its highest bit brought up
 -- 'exp_yy = norm_l (s); yy = round (L_shl (s, exp_yy)); exp_yy = sub (exp_yy, 4)'; nothing is subtracted where the sum did not overflow
 unfoldable pub normalized : ℤ → ℤ → ScaledWord
 normalized s lowered = record { word = round (L-shl s (pos (norm-l s))); exponent = sub (pos (norm-l s)) lowered }
 
--- 'if (Overflow == 0)': the sum of two lists, else that of two others
-unfoldable pub scalar-product : List ℤ → List ℤ → List ℤ → List ℤ → ℤ → ScaledWord
-scalar-product xs ys scaled-xs scaled-ys lowered =
-    cond (overflow xs ys 40) (normalized (sum scaled-xs scaled-ys 40) lowered) (normalized (sum xs ys 40) (pos 0))
+-- 'if (Overflow == 0)': a sum, else another one, its exponent lowered
+unfoldable pub unless-overflow : Flagged → Flagged → ℤ → ScaledWord
+unless-overflow s t lowered = cond (s .overflow) (normalized (t .value) lowered) (normalized (s .value) (pos 0))
 
 -- 'divide "y1[]" by 4 to avoid overflow'
 abbrev pub quarters : List ℤ → List ℤ
@@ -44,10 +29,10 @@ quarters ys = shifted ys (negsuc 1) 40
 
 -- the scalar products <y1[], y1[]> and <xn[], y1[]>
 abbrev pub energy : List ℤ → ScaledWord
-energy ys = scalar-product ys ys (quarters ys) (quarters ys) (pos 4)
+energy ys = unless-overflow (flagged-sum ys ys 40) (flagged-sum (quarters ys) (quarters ys) 40) (pos 4)
 
 abbrev pub correlation : List ℤ → List ℤ → ScaledWord
-correlation xs ys = scalar-product xs ys xs (quarters ys) (pos 2)
+correlation xs ys = unless-overflow (flagged-sum xs ys 40) (flagged-sum xs (quarters ys) 40) (pos 2)
 
 -- ---- the gain
 -- 'xy = shr (xy, 1); gain = div_s (xy, yy); gain = shr (gain, exp_xy - exp_yy)': a shift to the right by a count is one to the left by its negative
@@ -74,7 +59,7 @@ G-pitch xs ys = coefficients (correlation xs ys) (energy ys)
 
 -- ---- the entry
 -- an answer as 01 gives it
-abbrev pub told-gain : Gained → Told PitchGain
+abbrev pub told-gain : FoundGain → Told PitchGain
 told-gain (Gain g) = values g
 told-gain (Refused r) = turned-down r
 

@@ -1,11 +1,10 @@
 -- TS 26.073 Pow2: take the table's entry, draw the straight line to the next, shift down with rounding.
-use mathlib.Core.Bool.{cond}
 use mathlib.Core.List.{List, [], _∷_}
 use Prim.Native.Nat.{ℕ, zero, suc, _+_, _-_, _*_, _/_, _%_, _^_}
-use lib.Dec.{ltb}
 use lib.IntN.{ℤ, pos}
 use Rattle.fixed.specs.Line.{table-line}
 use Rattle.refusal.specs.Refused.{Told, values, refused, turned-down}
+use Rattle.refusal.specs.Checks.{checked, power-exponent, power-fraction}
 use Rattle.logarithm.specs.declared.Power.{Power}
 use Rattle.logarithm.specs.declared.Power.the-variants.{Value, Refused}
 
@@ -27,8 +26,6 @@ abbrev pub told : Power → Told ℤ
 told (Value v) = values v
 told (Refused r) = turned-down r
 
--- 01, number 7: the exponent if bad, else the fraction
+-- `pow2`: 01, number 7, the exponent and then the fraction
 unfoldable pub Pow2 : ℕ → ℕ → Told ℤ
-Pow2 exponent fraction =
-    cond (ltb 30 exponent) (refused 7 (pos exponent))
-    (cond (ltb 32767 fraction) (refused 7 (pos fraction)) (values (pos (power exponent fraction))))
+Pow2 exponent fraction = checked (power-exponent exponent ∷ power-fraction fraction ∷ []) refused (values (pos (power exponent fraction)))

@@ -105,7 +105,7 @@ fn positive_log2(u: u32) -> Logarithm
     let shift = u32::leading_zeros(u) - 1;
     let m = u << shift;
     let i = (m / 33554432 - 32) as usize;
-    let line = fixed::interpolated(table[i], table[i + 1], m);
+    let line = compound::interpolated(table[i], table[i + 1], m);
     Logarithm {
         exponent: (30 - shift) as u8,
         fraction_q15: (line / 65536) as u16,
@@ -138,7 +138,7 @@ fn bounded_pow2(exponent: u8, fraction_q15: u16) -> i32
     let table = POW2_TABLE;
     let m = fraction_q15 as u32 * 32768;
     let i = (m / 33554432) as usize;
-    let line = fixed::interpolated(table[i], table[i + 1], m);
+    let line = compound::interpolated(table[i], table[i + 1], m);
     rounded_shift(line, 30 - exponent as u32) as i32
 }
 

@@ -4,8 +4,8 @@ use lib.IntN.{pos}
 use Rattle.refusal.specs.Refused.{Told, values, refused, sign-magnitude}
 use Rattle.gain_pitch.specs.declared.PitchGain.{PitchGain}
 use Rattle.gain.specs.declared.QuantizedGain.{QuantizedGain}
-use Rattle.mr74.specs.declared.PitchGainAnswer.{PitchGainAnswer}
-use Rattle.mr74.specs.declared.GainAnswer.{GainAnswer}
+use Rattle.mr74.specs.declared.gain_row.PitchGainAnswer.{PitchGainAnswer}
+use Rattle.mr74.specs.declared.gain_row.GainAnswer.{GainAnswer}
 
 -- number 0 and the five numbers, or a refusal's number and detail and zeros
 abbrev pub pitch-gain-answer : Told PitchGain → PitchGainAnswer

@@ -1,7 +1,9 @@
 -- What the contracts of `mr74` cite.
-pub mod Crossing
-pub mod Pitches
+pub mod Lengths
 pub mod OpenLoops
-pub mod Codebooks
+pub mod Pitches
+pub mod Pulses
 pub mod Gains
+pub mod Powers
+pub mod Records
 pub mod Steps

@@ -6,7 +6,7 @@ use Rattle.refusal.specs.Refused.{Told, values, refused, sign-magnitude}
 use Rattle.refusal.specs.Checks.{Outcome, unless-refused, length-is}
 use Rattle.open_loop.specs.declared.Detector.{Detector}
 use Rattle.open_loop.specs.Detectors.{Pitch-ol}
-use Rattle.mr74.specs.declared.OpenLoopAnswer.{OpenLoopAnswer}
+use Rattle.mr74.specs.declared.open_loop_lag.OpenLoopAnswer.{OpenLoopAnswer}
 
 -- number 0 and the lag, or a refusal's number and detail and 0
 abbrev pub lag-answer : Told ℕ → OpenLoopAnswer

@@ -139,21 +139,21 @@ pub extern "C" fn leaf_deposit_high(v: i16) -> i32
 pub extern "C" fn leaf_split(v: i32) -> Halves
     ensures { λ r. ⌜ r ≡ L-Extract v ⌝ }
 {
-    fixed::split(v)
+    compound::split(v)
 }
 
 #[no_mangle]
 pub extern "C" fn leaf_multiply(a: i32, b: i32) -> i32
     ensures { λ r. ⌜ r ≡ Mpy-32 a b ⌝ }
 {
-    fixed::multiply(a, b)
+    compound::multiply(a, b)
 }
 
 #[no_mangle]
 pub extern "C" fn leaf_multiply_word(a: i32, n: i16) -> i32
     ensures { λ r. ⌜ r ≡ Mpy-32-16 a n ⌝ }
 {
-    fixed::multiply_word(a, n)
+    compound::multiply_word(a, n)
 }
 
 #[no_mangle]
@@ -195,14 +195,14 @@ pub extern "C" fn leaf_unsigned_abs(v: i32) -> u32
 pub extern "C" fn leaf_divide(a: i16, b: i16) -> i16
     ensures { λ r. ⌜ r ≡ div-s a b ⌝ }
 {
-    fixed::divide(a, b)
+    compound::divide(a, b)
 }
 
 #[no_mangle]
 pub extern "C" fn leaf_interpolated(from: u16, to: u16, m: u32) -> u32
     ensures { λ r. ⌜ r ≡ line from to m ⌝ }
 {
-    fixed::interpolated(from, to, m)
+    compound::interpolated(from, to, m)
 }
 
 #[no_mangle]
@@ -216,19 +216,19 @@ pub extern "C" fn leaf_inverse_sqrt(value: i32) -> i32
 pub extern "C" fn leaf_product_high(a: i16, b: i16, n: u32) -> i16
     ensures { λ r. ⌜ r ≡ extract-h (L-shl (L-mult a b) (pos (min n 15))) ⌝ }
 {
-    fixed::product_high(a, b, n)
+    compound::product_high(a, b, n)
 }
 
 #[no_mangle]
 pub extern "C" fn leaf_energy40(x: &[i16; 40]) -> i32
     ensures { λ r. ⌜ r ≡ dot (now (x .entry)) (now (x .entry)) 40 ⌝ }
 {
-    fixed::energy40(x)
+    sums::energy40(x)
 }
 
 #[no_mangle]
 pub extern "C" fn leaf_dot40(x: &[i16; 40], y: &[i16; 40]) -> i32
     ensures { λ r. ⌜ r ≡ dot (now (x .entry)) (now (y .entry)) 40 ⌝ }
 {
-    fixed::dot40(x, y)
+    sums::dot40(x, y)
 }

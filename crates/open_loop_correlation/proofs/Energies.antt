@@ -6,14 +6,16 @@ use Prim.Native.Nat.{ℕ, zero, suc, _+_, _-_, _*_, _^_, _≤_, _<_, min}
 use native.Mathlib.Omega.{arith}
 use lib.IntN.{ℤ, pos, natAbs, _*ℤ_}
 use lib.Signed.{ltZ}
+use borrow.Author.Tests.{le-leb}
 use mir.Syntax.{w32}
 use mir.Val.{SFits}
 use Rattle.fixed.specs.Operators.{L-add, L-mult}
 use Rattle.fixed.specs.Lists.{at, L-sum}
 use Rattle.fixed.proofs.Bounds.{fits-abs, abs-mul}
-use Rattle.fixed.proofs.Sums.{square-is}
-use Rattle.fixed.proofs.Quiet.{squared, plain, small, quiet, window, squared-same, not-clipped}
-use Rattle.open_loop_correlation.specs.Correlations.{products, correlation}
+use Rattle.sums.proofs.Sums.{square-is}
+use Rattle.sums.specs.Plain.{squared, plain}
+use Rattle.sums.proofs.Quiet.{small, quiet, window, squared-same, not-clipped}
+use Rattle.open_loop_correlation.specs.Correlations.{products, energy-from, correlation}
 
 module _ (xs : List ℤ) where
   -- the words from a place on
@@ -24,6 +26,11 @@ module _ (xs : List ℤ) where
   unfolding products L-sum L-add L-mult squared
   energy-at a zero = refl
   energy-at a (suc n) = rw (energy-at a n, square-is (from a n)) (ap pos (omega arith))
+
+  -- where they are among the 223
+  pub energy-within : (a n : ℕ) → a + n ≤ 223 → energy-from xs a n ≡ products xs a a n
+  unfolding energy-from
+  energy-within a n h = rw (le-leb (a + n) 223 h)
 
   -- and from the first on
   pub energy-whole : (n : ℕ) → products xs 0 0 n ≡ pos (min (2 * squared (at xs) n) 2147483647)

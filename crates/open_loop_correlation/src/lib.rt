@@ -1,10 +1,10 @@
 // The correlations of the open-loop lag, TS 26.073 comp_corr, from pitch/open_loop.rs.
 ghost use mathlib.Core.Bool.{true};
 ghost use mathlib.Core.Path.{_≡_};
-ghost use Prim.Native.Nat.{_+_, _≤_};
+ghost use Prim.Native.Nat.{_+_, _-_, _≤_, _<_};
 ghost use lib.IntN.{pos};
 ghost use lib.Signed.{ltZ};
-ghost use Rattle.open_loop_correlation.specs.Correlations.{products, correlation, by-lag};
+ghost use Rattle.open_loop_correlation.specs.Correlations.{products, energy-from, correlation, by-lag};
 
 const HALF_FRAME_SAMPLES: usize = 80;
 
@@ -20,19 +20,25 @@ const LAGS: usize = 144;
 pub fn correlations(words: &[i16; 223]) -> [i32; 144]
     ensures { λ r. ⌜ r ≡ by-lag (now (words .entry)) ⌝ }
 {
-    if energy(words) < 2147483647 {
+    if energy(words, 0, INPUT_SAMPLES) < 2147483647 {
         return plain_table(words);
     }
     clipped_table(words)
 }
 
-// Of all words. Terms are not negative, so the sum is clipped once.
-fn energy(words: &[i16; 223]) -> i32
-    ensures { λ r. ⌜ r ≡ products (now (words .entry)) 0 0 223 ⌝ }
+// Of `count` words from a place on; 0 where these are not all among the 223. Terms are not negative, so the sum is clipped once.
+pub fn energy(words: &[i16; 223], from: usize, count: usize) -> i32
+    ensures { λ r. ⌜ r ≡ energy-from (now (words .entry)) from count ⌝ }
 {
+    if INPUT_SAMPLES < from {
+        return 0;
+    }
+    if INPUT_SAMPLES - from < count {
+        return 0;
+    }
     let mut sum: u64 = 0;
-    for i in 0..INPUT_SAMPLES {
-        let v = words[i];
+    for i in 0..count {
+        let v = words[from + i];
         sum = sum + fixed::exact(v, v) as u32 as u64;
     }
     if 1073741823 < sum {
@@ -108,12 +114,22 @@ fn four_at(words: &[i16; 223], lag: usize) -> Four
     let mut c: i32 = 0;
     let mut d: i32 = 0;
     for i in 0..HALF_FRAME_SAMPLES {
-        let v = words[HISTORY_SAMPLES + i];
-        let place = HISTORY_SAMPLES - lag + i;
-        a = fixed::mac(a, v, words[place]);
-        b = fixed::mac(b, v, words[place - 1]);
-        c = fixed::mac(c, v, words[place - 2]);
-        d = fixed::mac(d, v, words[place - 3]);
+        a = grown(words, a, lag, i);
+        b = grown(words, b, lag + 1, i);
+        c = grown(words, c, lag + 2, i);
+        d = grown(words, d, lag + 3, i);
     }
     Four { a, b, c, d }
+}
+
+// The sum of a lag with one product more.
+fn grown(words: &[i16; 223], sum: i32, lag: usize, i: usize) -> i32
+    requires { ⌜ (lag ≤ 143) × (i < 80) × (sum ≡ products (now words) 143 (143 - lag) i) ⌝ }
+    ensures { λ r. ⌜ r ≡ products (now (words .entry)) 143 (143 - lag) (i + 1) ⌝ }
+{
+    fixed::mac(
+        sum,
+        words[HISTORY_SAMPLES + i],
+        words[HISTORY_SAMPLES - lag + i],
+    )
 }

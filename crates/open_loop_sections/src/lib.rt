@@ -6,7 +6,7 @@ ghost use lib.IntN.{pos};
 ghost use lib.Signed.{ltZ};
 ghost use Rattle.fixed.specs.Operators.{mult};
 ghost use Rattle.fixed.specs.Lists.{at, best};
-ghost use Rattle.open_loop_correlation.specs.Correlations.{products, by-lag};
+ghost use Rattle.open_loop_correlation.specs.Correlations.{by-lag};
 ghost use Rattle.open_loop_sections.specs.Sections.{scaled, scaled-all, held-at, Lag-max, of-sections, lag-of};
 
 const HALF_FRAME_SAMPLES: usize = 80;
@@ -30,7 +30,7 @@ pub fn lag_of(input: &[i16; 223]) -> usize
 fn scaled_all(input: &[i16; 223]) -> [i16; 223]
     ensures { λ r. ⌜ r ≡ scaled-all (now (input .entry)) ⌝ }
 {
-    let energy = energy(input, 0, INPUT_SAMPLES);
+    let energy = open_loop_correlation::energy(input, 0, INPUT_SAMPLES);
     let mut words = [0i16; INPUT_SAMPLES];
     for i in 0..INPUT_SAMPLES {
         words[i] = scaled(input[i], energy);
@@ -48,22 +48,6 @@ fn scaled(v: i16, energy: i32) -> i16
         return fixed::shift_word(v, 3);
     }
     v
-}
-
-// Terms are not negative, so the sum is clipped once.
-fn energy(words: &[i16; 223], from: usize, count: usize) -> i32
-    requires { ⌜ from + count ≤ 223 ⌝ }
-    ensures { λ r. ⌜ r ≡ products (now (words .entry)) from from count ⌝ }
-{
-    let mut sum: u64 = 0;
-    for i in 0..count {
-        let v = words[from + i];
-        sum = sum + fixed::exact(v, v) as u32 as u64;
-    }
-    if 1073741823 < sum {
-        return 2147483647;
-    }
-    (2 * sum) as i32
 }
 
 fn of_sections(words: &[i16; 223], table: &[i32; 144]) -> usize
@@ -88,8 +72,9 @@ fn section(words: &[i16; 223], table: &[i32; 144], low: usize, span: usize) -> H
     ensures { λ r. ⌜ r ≡ held-at (now (words .entry)) (Lag-max (now (words .entry)) low span) ⌝ }
 {
     let lag = best_lag(table, low, span);
-    let root = energy::inverse_sqrt(energy(words, HISTORY_SAMPLES - lag, HALF_FRAME_SAMPLES));
-    let value = fixed::low_word(fixed::multiply(table[lag], root));
+    let energy = open_loop_correlation::energy(words, HISTORY_SAMPLES - lag, HALF_FRAME_SAMPLES);
+    let root = energy::inverse_sqrt(energy);
+    let value = fixed::low_word(compound::multiply(table[lag], root));
     Held { lag, value }
 }
 

@@ -1,4 +1,4 @@
--- The numbers of 01 that stand behind fractions and subframes, and the open-loop lag.
+-- The numbers of 01 that stand behind fractions and subframes, the lag of a fresh searcher, and the open-loop lag.
 use mathlib.Core.Bool.{Bool, true, false}
 use mathlib.Core.List.{[], _∷_}
 use Prim.Native.Nat.{ℕ}
@@ -9,6 +9,7 @@ use Rattle.pitch.specs.declared.Fraction.{Fraction}
 use Rattle.pitch.specs.declared.Fraction.the-variants.{MinusThird, Zero, PlusThird}
 use Rattle.pitch.specs.declared.Subframe.{Subframe}
 use Rattle.pitch.specs.declared.Subframe.the-variants.{One, Two, Three, Four}
+use Rattle.pitch.specs.declared.PitchLag.{PitchLag}
 use Rattle.pitch.specs.declared.OpenLoop.{OpenLoop}
 use Rattle.pitch.specs.declared.OpenLoop.the-variants.{Lag, Refused}
 
@@ -23,6 +24,10 @@ abbrev pub from-zero : Fraction → ℕ
 from-zero MinusThird = 0
 from-zero Zero = 1
 from-zero PlusThird = 2
+
+-- 'Fresh searcher and fresh reader: previous lag 40, expecting 1'
+abbrev pub fresh-lag : PitchLag
+fresh-lag = record { samples = 40; fraction = Zero }
 
 -- 01: 'A subframe number', 1 to 4
 abbrev pub subframe-number : Subframe → ℕ

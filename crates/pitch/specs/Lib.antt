@@ -1,6 +1,4 @@
--- What the contracts of `pitch`, and of the search and of recovery over it, cite.
+-- What the contracts of `pitch`, and of the search, the lag reader and recovery over it, cite.
 pub mod Kinds
 pub mod Windows
 pub mod Indexes
-pub mod Readers
-pub mod Opens

@@ -1,11 +1,9 @@
-// Pitch lags, from pitch.rs: the kinds of lag, the search windows, the index rules in both directions, and the lag reader.
+// Pitch lags, from pitch.rs: the kinds of lag, the search windows, and the index rules in both directions.
 use refusal::Refusal;
 ghost use mathlib.Core.Path.{_≡_};
-ghost use Rattle.refusal.specs.Refused.{values, turned-down};
-ghost use Rattle.pitch.specs.Kinds.{thirds, from-zero, subframe-number, absolute, following, told-lag, try-lag};
+ghost use Rattle.pitch.specs.Kinds.{thirds, from-zero, fresh-lag, subframe-number, absolute, following, told-lag, try-lag};
 ghost use Rattle.pitch.specs.Windows.{absolute-start, relative-start, handset};
 ghost use Rattle.pitch.specs.Indexes.{absolute-index, relative-index, fraction-at, absolute-lag, relative-lag, index-of, lag-of};
-ghost use Rattle.pitch.specs.Readers.{fresh-lag, fresh-reader, told-reading, read};
 
 const INITIAL_LAG_SAMPLES: u16 = 40;
 
@@ -14,8 +12,6 @@ const FRACTIONAL_INDEX_LIMIT: u16 = 197;
 const DIRECT_LAG_OFFSET: u16 = 112;
 
 const FRACTIONAL_LAG_BASE: u16 = 19;
-
-const MAX_DELTA_INDEX: u8 = 31;
 
 const INTEGER_ENCODING_LIMIT: u32 = 85;
 
@@ -165,8 +161,8 @@ impl PitchLag {
         }
     }
 
-    // TS 26.073 Dec_lag3, subframes two and four.
-    pub fn from_relative(index: u8, previous: u16) -> Self
+    // TS 26.073 Dec_lag3, subframes two and four: the rule of every index, as in the Rust. Above 31 the lag reader refuses.
+    fn relative(index: u8, previous: u16) -> Self
         ensures { λ r. ⌜ r ≡ relative-lag (relative-start handset previous) index ⌝ }
     {
         let start = relative_start(previous);
@@ -184,7 +180,7 @@ impl PitchLag {
         if subframe.absolute() {
             return PitchLag::from_absolute(index);
         }
-        PitchLag::from_relative(index, previous)
+        PitchLag::relative(index, previous)
     }
 
     // Its index in a subframe, in a window that starts at `start`.
@@ -259,83 +255,5 @@ pub fn fresh_lag() -> PitchLag
     PitchLag {
         samples: INITIAL_LAG_SAMPLES,
         fraction: Fraction::Zero,
-    }
-}
-
-// The lag reader: the lag that it read last, and the subframe that it expects.
-pub struct Reader {
-    pub previous: PitchLag,
-    pub next: Subframe,
-}
-
-// What `read` answers.
-pub enum Reading {
-    Lag(PitchLag),
-    Refused(Refusal),
-}
-
-pub struct ReaderStep {
-    pub reading: Reading,
-    pub reader: Reader,
-}
-
-impl Reader {
-    pub fn fresh() -> Self
-        ensures { λ r. ⌜ r ≡ fresh-reader ⌝ }
-    {
-        let previous = fresh_lag();
-        Reader {
-            previous,
-            next: Subframe::One,
-        }
-    }
-
-    pub fn reset(self) -> Self
-        ensures { λ r. ⌜ r ≡ fresh-reader ⌝ }
-    {
-        Reader::fresh()
-    }
-
-    pub fn read(self, subframe: u8, index: u8) -> ReaderStep
-        ensures { λ r. ⌜ (told-reading (r .reading) ≡ read self subframe index .answer) × (r .reader ≡ read self subframe index .after) ⌝ }
-    {
-        if subframe < 1 {
-            return self.refused(Refusal::Subframe(subframe));
-        }
-        if 4 < subframe {
-            return self.refused(Refusal::Subframe(subframe));
-        }
-        let due = self.next;
-        if subframe != due.number() {
-            return self.refused(Refusal::Order(due.number()));
-        }
-        if !due.absolute() & (MAX_DELTA_INDEX < index) {
-            return self.refused(Refusal::RelativeIndex(index));
-        }
-        self.taken(PitchLag::decoded(due, index, self.previous.samples))
-    }
-
-    fn refused(self, refusal: Refusal) -> ReaderStep
-        ensures { λ r. ⌜ (told-reading (r .reading) ≡ turned-down refusal) × (r .reader ≡ self) ⌝ }
-    {
-        ReaderStep {
-            reading: Reading::Refused(refusal),
-            reader: self,
-        }
-    }
-
-    fn taken(self, lag: PitchLag) -> ReaderStep
-        ensures { λ r. ⌜ (told-reading (r .reading) ≡ values lag) × (r .reader ≡ record { previous = lag; next = following (self .next) }) ⌝ }
-    {
-        let due = self.next;
-        let next = due.next();
-        let reader = Reader {
-            previous: lag,
-            next,
-        };
-        ReaderStep {
-            reading: Reading::Lag(lag),
-            reader,
-        }
     }
 }

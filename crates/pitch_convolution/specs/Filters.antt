@@ -1,21 +1,18 @@
 -- TS 26.073 Convolve: a list filtered by an impulse response in Q12.
 use mathlib.Core.List.{List, [], _∷_}
-use Prim.Native.Nat.{ℕ, suc, _-_}
+use Prim.Native.Nat.{ℕ}
 use lib.IntN.{ℤ, pos}
-use Rattle.fixed.specs.Operators.{L-mult, L-shl, extract-h}
-use Rattle.fixed.specs.Lists.{at, tabulate, L-sum}
+use Rattle.fixed.specs.Operators.{L-shl, extract-h}
+use Rattle.fixed.specs.Lists.{tabulate}
+use Rattle.sums.specs.Convolutions.{convolution}
 use Rattle.refusal.specs.Refused.{Told, values, turned-down}
 use Rattle.refusal.specs.Checks.{Outcome, unless-refused, length-is}
 use Rattle.pitch_convolution.specs.declared.Convolution.{Convolution}
 use Rattle.pitch_convolution.specs.declared.Convolution.the-variants.{Written, Refused}
 
--- the first m of the products that place n sums, clipped after every addition
-unfoldable pub products-to : List ℤ → List ℤ → ℕ → ℕ → ℤ
-products-to xs hs n m = L-sum (pos 0) (λ i. L-mult (at xs i) (at hs (n - i))) m
-
--- place n: the sum of n + 1 products, shifted to the left by 3, its high word
+-- place n: the sum of n + 1 products, clipped after every addition, shifted to the left by 3, its high word
 unfoldable pub convolved-at : List ℤ → List ℤ → ℕ → ℤ
-convolved-at xs hs n = extract-h (L-shl (products-to xs hs n (suc n)) (pos 3))
+convolved-at xs hs n = extract-h (L-shl (convolution xs hs n) (pos 3))
 
 -- TS 26.073 Convolve
 unfoldable pub Convolve : List ℤ → List ℤ → List ℤ

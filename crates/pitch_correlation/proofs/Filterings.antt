@@ -25,7 +25,7 @@ update-suc l hs sample fs (suc j) h =
     let e : j ≡ suc j - 1 = omega arith in
     ap (λ (k : ℕ). add (extract-h (L-shl (L-mult sample (at hs (suc j))) (pos (cond l 1 3)))) (at fs k)) e
 
--- what a search asks for is answered
+-- so asked, it is answered
 pub norm-corr : (exc target hs : List ℤ) (low end : ℕ) → length exc ≡ 194 → length target ≡ 40 → length hs ≡ 40 → low < end → end ≤ 148 →
     Norm-Corr exc target hs low end ≡ correlations exc target hs low end
 unfolding Norm-Corr

@@ -7,7 +7,7 @@ use lib.IntN.{ℤ, pos, negsuc}
 use lib.ListN.{length, replicate}
 use lib.Signed.{ltZ}
 use Rattle.fixed.specs.Operators.{add, L-mult, L-shl, shl, extract-h, Mpy-32}
-use Rattle.fixed.specs.Lists.{at, tabulate, part, between, dot}
+use Rattle.fixed.specs.Lists.{at, tabulate, part, shifted, between, dot}
 use Rattle.energy.specs.Root.{Inv-sqrt}
 use Rattle.pitch_convolution.specs.Filters.{Convolve}
 
@@ -21,7 +21,7 @@ scaled l v = cond l (shl v (negsuc 1)) v
 
 -- and so every word of it
 unfoldable pub scaled-all : Bool → List ℤ → List ℤ
-scaled-all l fs = tabulate (λ k. scaled l (at fs k)) 40
+scaled-all l fs = cond l (shifted fs (negsuc 1) 40) fs
 
 -- Norm_Corr, 'modify the filtered excitation excf[] for the next iteration': the first word is the sample that comes in, each other its neighbour and the sample's part; h_fac is 3, or 1 where words are scaled
 unfoldable pub update-at : Bool → List ℤ → ℤ → List ℤ → ℕ → ℤ
@@ -45,7 +45,7 @@ normalized target fs = extract-h (L-shl (Mpy-32 (dot fs target 40) (Inv-sqrt (do
 unfoldable pub correlation-at : Bool → List ℤ → List ℤ → List ℤ → ℕ → List ℤ → ℕ → ℤ
 correlation-at l exc target hs low first lag = normalized target (filtered l exc hs low first (lag - low))
 
--- 01: 'places 16..147 of a list of 148', by the lag
+-- corr_norm[] by the lag, from low up to, and without, end; every other place is 0. A search fills places between 16 and 147
 unfoldable pub correlations-from : List ℤ → List ℤ → List ℤ → List ℤ → ℕ → ℕ → List ℤ
 correlations-from first exc target hs low end = tabulate (between (correlation-at (loud first) exc target hs low first) (λ k. pos 0) low end) 148
 
@@ -53,10 +53,10 @@ correlations-from first exc target hs low end = tabulate (between (correlation-a
 unfoldable pub correlations : List ℤ → List ℤ → List ℤ → ℕ → ℕ → List ℤ
 correlations exc target hs low end = correlations-from (Convolve (part exc (154 - low) 40) hs) exc target hs low end
 
--- what a search asks for: lists of 194, 40 and 40 words, and lags below 148, one at least
+-- lists of 194, 40 and 40 words, and at least one lag from low up to, and without, end, none above 147: so asks every search, from lag 16 up
 abbrev pub asked : List ℤ → List ℤ → List ℤ → ℕ → ℕ → Bool
 asked exc target hs low end = eqb (length exc) 194 && eqb (length target) 40 && eqb (length hs) 40 && ltb low end && leb end 148
 
--- Norm_Corr for every list and every lag: no correlation where no search asks for it
+-- Norm_Corr for every list and every two lags: all 0 where it is not so asked
 unfoldable pub Norm-Corr : List ℤ → List ℤ → List ℤ → ℕ → ℕ → List ℤ
 Norm-Corr exc target hs low end = cond (asked exc target hs low end) (correlations exc target hs low end) (replicate 148 (pos 0))

@@ -4,7 +4,7 @@ ghost use mathlib.Core.Path.{_≡_};
 ghost use Prim.Native.Nat.{_+_, _^_, _<_, _≤_};
 ghost use lib.ListN.{length};
 ghost use Rattle.fixed.specs.Lists.{at, part, dot};
-ghost use Rattle.fixed.proofs.Quiet.{squared};
+ghost use Rattle.sums.specs.Plain.{squared};
 ghost use Rattle.energy.specs.Root.{inverses};
 ghost use Rattle.pitch_correlation.specs.Correlations.{loud, scaled, scaled-all, update, normalized, correlations-from, Norm-Corr};
 
@@ -25,7 +25,7 @@ const ENERGY_LIMIT: i32 = 67108864;
 const CLIPPED: i32 = 2147483647;
 
 // 40 words of a list, from a place on.
-fn forty(list: &[i16], from: usize) -> [i16; 40]
+fn forty_from(list: &[i16], from: usize) -> [i16; 40]
     requires { ⌜ from + 40 ≤ length (now list) ⌝ }
     ensures { λ r. ⌜ r ≡ part (now (list .entry)) from 40 ⌝ }
 {
@@ -39,7 +39,7 @@ fn forty(list: &[i16], from: usize) -> [i16; 40]
 fn is_loud(filtered: &[i16; 40]) -> bool
     ensures { λ r. ⌜ r ≡ loud (now (filtered .entry)) ⌝ }
 {
-    ENERGY_LIMIT < fixed::energy40(filtered)
+    ENERGY_LIMIT < sums::energy40(filtered)
 }
 
 fn scaled(v: i16, loud: bool) -> i16
@@ -54,11 +54,10 @@ fn scaled(v: i16, loud: bool) -> i16
 fn scaled_all(convolved: &[i16; 40], loud: bool) -> [i16; 40]
     ensures { λ r. ⌜ r ≡ scaled-all loud (now (convolved .entry)) ⌝ }
 {
-    let mut filtered = [0i16; 40];
-    for i in 0..40 {
-        filtered[i] = scaled(convolved[i], loud);
+    if loud {
+        return sums::shifted40(convolved, -2);
     }
-    filtered
+    *convolved
 }
 
 // One lag on: upwards into a new list.
@@ -70,7 +69,7 @@ fn update(filtered: &[i16; 40], sample: i16, impulse: &[i16; 40], loud: bool) ->
     let shift = filter_shift(loud);
     for j in 1..40 {
         next[j] = fixed::add16(
-            fixed::product_high(sample, impulse[j], shift),
+            compound::product_high(sample, impulse[j], shift),
             filtered[j - 1],
         );
     }
@@ -90,17 +89,17 @@ fn filter_shift(loud: bool) -> u32
 fn is_quiet(list: &[i16; 40]) -> bool
     ensures { λ r. ⌜ (r ≡ true → squared (at (now (list .entry))) 40 < 2 ^ 30) ⌝ }
 {
-    fixed::energy40(list) < CLIPPED
+    sums::energy40(list) < CLIPPED
 }
 
 fn normalized(filtered: &[i16; 40], target: &[i16; 40], quiet: bool, roots: &[u16; 49]) -> i16
     requires { ⌜ (now roots ≡ inverses) × (quiet ≡ true → squared (at (now target)) 40 < 2 ^ 30) ⌝ }
     ensures { λ r. ⌜ r ≡ normalized (now (target .entry)) (now (filtered .entry)) ⌝ }
 {
-    let energy = fixed::energy40(filtered);
+    let energy = sums::energy40(filtered);
     let sum = sum_with(filtered, target, quiet & (energy < CLIPPED));
     let root = energy::inverse_sqrt_in(energy, roots);
-    fixed::clip16(fixed::multiply(sum, root))
+    fixed::clip16(compound::multiply(sum, root))
 }
 
 // Where neither energy is clipped, no product and no sum of products is: 2 |a b| is at most a² + b².
@@ -111,7 +110,7 @@ fn sum_with(filtered: &[i16; 40], target: &[i16; 40], quiet: bool) -> i32
     if quiet {
         return plain_sum(filtered, target);
     }
-    fixed::dot40(filtered, target)
+    sums::dot40(filtered, target)
 }
 
 fn plain_sum(filtered: &[i16; 40], target: &[i16; 40]) -> i32
@@ -125,7 +124,7 @@ fn plain_sum(filtered: &[i16; 40], target: &[i16; 40]) -> i32
     2 * sum
 }
 
-// By the lag, from low up to end: places 16 to 147. Where the lists or the lags are not those of a search, every place is 0.
+// By the lag, from low up to, and without, end. Where the lists have other lengths, or there is no such lag, or one is above 147, every place is 0.
 pub fn normalized_correlation(
     excitation: &[i16],
     target: &[i16],
@@ -141,12 +140,19 @@ pub fn normalized_correlation(
         & (low < end)
         & (end <= CORRELATION_SAMPLES)
     {
-        let response = forty(impulse, 0);
+        let response = sums::forty(impulse);
         let first = pitch_convolution::convolved(
-            &forty(excitation, HISTORY_SAMPLES - low),
+            &forty_from(excitation, HISTORY_SAMPLES - low),
             &response,
         );
-        return correlated(&first, excitation, &forty(target, 0), &response, low, end);
+        return correlated(
+            &first,
+            excitation,
+            &sums::forty(target),
+            &response,
+            low,
+            end,
+        );
     }
     [0; CORRELATION_SAMPLES]
 }

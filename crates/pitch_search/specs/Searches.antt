@@ -11,7 +11,7 @@ use Rattle.pitch.specs.declared.PitchLag.{PitchLag}
 use Rattle.pitch.specs.Kinds.{subframe-number, absolute, following}
 use Rattle.pitch.specs.Windows.{handset, absolute-start, relative-start}
 use Rattle.pitch.specs.Indexes.{index-of}
-use Rattle.pitch.specs.Readers.{fresh-lag}
+use Rattle.pitch.specs.Kinds.{fresh-lag}
 use Rattle.pitch_search.specs.declared.SearchedPitch.{SearchedPitch}
 use Rattle.pitch_search.specs.declared.Found.{Found}
 use Rattle.pitch_search.specs.declared.Found.the-variants.{Pitch, Refused}

@@ -1,4 +1,4 @@
--- A question to one of the stages, and what its definition answers: the numbers in the order in which 01 prints them, or a refusal.
+-- A question to one of the stages, and what its definition answers: the numbers in the order in which 01 prints them, or a refusal. A line of 01's listing is asked for through its own definition.
 use mathlib.Core.List.{List, [], _∷_, map}
 use Prim.Native.Nat.{ℕ}
 use lib.IntN.{ℤ, pos}
@@ -18,6 +18,7 @@ use Rattle.codebook_search.specs.declared.PulseWords.{PulseWords}
 use Rattle.codebook_search.specs.Pulses.{Lists, lent, pulses}
 use Rattle.gain_pitch.specs.Gains.{pitch-gain}
 use Rattle.gain.specs.Rows.{quantize}
+use Rattle.selection_answers.specs.Lines.{Line, none, line, open-line, pitch-line, pulse-line, gain-line}
 
 pub data Question : Type 0 where
   -- `pow2`: exponent and fraction
@@ -38,6 +39,11 @@ pub data Question : Type 0 where
   -- the gain row of target, adaptive words and filtered innovation, with a predicted exponent and fraction and a limit choice
   gainRow : List ℤ → List ℤ → List ℤ → ℤ → ℕ → ℕ → Question
 
+-- the fields that a line prints behind its name
+abbrev pub printed : Line → List ℤ
+printed none = []
+printed (line name fields) = fields
+
 abbrev pub lag-numbers : PitchLag → List ℤ
 lag-numbers l = pos (l .samples) ∷ thirds (l .fraction) ∷ []
 
@@ -55,11 +61,11 @@ answer (powerOfTwo e f) = put (λ v. v ∷ []) (Pow2 e f)
 answer (absoluteReading index) = values (lag-numbers (absolute-lag index))
 answer (relativeReading previous index) = values (lag-numbers (relative-lag (relative-start handset previous) index))
 answer (absoluteIndex l) = values (pos (absolute-index l) ∷ [])
-answer (openLoop samples) = put (λ l. pos l ∷ []) (Pitch-ol fresh-detector samples .answer)
+answer (openLoop samples) = put (λ l. printed (open-line l)) (Pitch-ol fresh-detector samples .answer)
 answer (pitchAfter ns exc target hs first second n) =
-    put (λ p. pos (p .index) ∷ lag-numbers (p .lag)) (Pitch-fr (searched-after ns exc target hs first second fresh-search) exc target hs first second n .answer)
-answer (pulseWords target hs lag gain) = put (λ w. pos (w .positions) ∷ pos (w .signs) ∷ []) (pulse-search target hs lag gain .answer)
+    put (λ p. printed (pitch-line p)) (Pitch-fr (searched-after ns exc target hs first second fresh-search) exc target hs first second n .answer)
+answer (pulseWords target hs lag gain) = put (λ w. printed (pulse-line w)) (pulse-search target hs lag gain .answer)
 answer (innovationAt places target hs lag gain) = put (λ w. map (at (pulse-search target hs lag gain .after .innovation)) places) (pulse-search target hs lag gain .answer)
 answer (pitchGain target adaptive) = put (λ g. g .«gain_q14» ∷ []) (pitch-gain target adaptive)
 answer (gainRow target adaptive filtered exponent fraction limit) =
-    put (λ q. pos (q .index) ∷ q .row .«pitch_q14» ∷ q .row .«correction_q12» ∷ []) (quantize target adaptive filtered exponent fraction limit)
+    put (λ q. printed (gain-line q)) (quantize target adaptive filtered exponent fraction limit)

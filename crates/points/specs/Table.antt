@@ -34,8 +34,8 @@ points =
     ∷ record { asked = relativeReading 20 0; told = values (pos 19 ∷ pos 1 ∷ []) }
     -- lines 2, 3, 4 and 6 of the listing
     ∷ record { asked = openLoop (replicate 80 (pos 0)); told = values (pos 80 ∷ []) }
-    ∷ record { asked = silent-pitch [] 1; told = values (pos 189 ∷ pos 82 ∷ pos 1 ∷ []) }
-    ∷ record { asked = silent-pitch (1 ∷ []) 2; told = values (pos 27 ∷ pos 85 ∷ pos 1 ∷ []) }
+    ∷ record { asked = silent-pitch [] 1; told = values (pos 189 ∷ pos 82 ∷ pos 1 ∷ pos 97 ∷ []) }
+    ∷ record { asked = silent-pitch (1 ∷ []) 2; told = values (pos 27 ∷ pos 85 ∷ pos 1 ∷ pos 94 ∷ []) }
     ∷ record { asked = pulseWords (replicate 40 (pos 0)) (replicate 40 (pos 0)) 40 (pos 0); told = values (pos 6 ∷ pos 15 ∷ []) }
     -- 'line 6 with lag 20, gain 16384: innovation 8190 at 21, 22, 23'
     ∷ record { asked = innovationAt (21 ∷ 22 ∷ 23 ∷ []) (replicate 40 (pos 0)) (replicate 40 (pos 0)) 20 (pos 16384); told = values (pos 8190 ∷ pos 8190 ∷ pos 8190 ∷ []) }

@@ -16,10 +16,10 @@ use Rattle.refusal.proofs.Checkings.{Passes, value-or, passed, passes, failed, 
 use Rattle.pitch.specs.declared.Subframe.{Subframe}
 use Rattle.pitch.specs.declared.Subframe.the-variants.{One, Two, Three, Four}
 use Rattle.pitch.specs.declared.PitchLag.{PitchLag}
-use Rattle.pitch.specs.declared.Reader.{Reader}
+use Rattle.lag_reader.specs.declared.Reader.{Reader}
 use Rattle.pitch.specs.Kinds.{subframe-number, absolute, following}
 use Rattle.pitch.specs.Indexes.{lag-of}
-use Rattle.pitch.specs.Readers.{relative-index-fits, read}
+use Rattle.lag_reader.specs.Readers.{relative-index-fits, read}
 use Rattle.pitch_search.specs.declared.Search.{Search}
 use Rattle.pitch_search.specs.declared.SearchedPitch.{SearchedPitch}
 use Rattle.pitch_search.specs.Searches.{accepted, search-checks, Pitch-fr}
@@ -81,10 +81,10 @@ taken r n i e w =
     fits false h = le-leb i 31 h
 
 -- a stray reading
-turned-away : (r : Reader) (n i : ℕ) → (n ≡ subframe-number (r .next) → ⊥) ⊎ (((n ≡ 2) ⊎ (n ≡ 4)) × (31 < i)) →
+stray-refused : (r : Reader) (n i : ℕ) → (n ≡ subframe-number (r .next) → ⊥) ⊎ (((n ≡ 2) ⊎ (n ≡ 4)) × (31 < i)) →
     (accepts (read r n i .answer) ≡ false) × (read r n i .after ≡ r)
 unfolding read
-turned-away r n i h = failed r _ (known-subframe n ∷ in-order (subframe-number (r .next)) n ∷ relative-index-fits (r .next) i ∷ []) (no h)
+stray-refused r n i h = failed r _ (known-subframe n ∷ in-order (subframe-number (r .next)) n ∷ relative-index-fits (r .next) i ∷ []) (no h)
   where
     above : (t : Bool) → t ≡ false → (t || leb i 31) ≡ true → i ≤ 31
     above true q e = contradiction (sym q)
@@ -110,9 +110,9 @@ module _ (s : Search) (x : Input) where
   abbrev let-through : Outcome SearchedPitch Search
   let-through = accepted s (x .excitation) (x .target) (x .impulse) (x .first) (x .second)
 
-  in-turn : accepts (searched s x .answer) ≡ true → x .subframe ≡ subframe-number (s .next)
+  is-expected : accepts (searched s x .answer) ≡ true → x .subframe ≡ subframe-number (s .next)
   unfolding Pitch-fr
-  in-turn e = eqb-true (x .subframe) (subframe-number (s .next)) (passes s let-through checked e .1 .1 .1 .1 .1 .1 .0)
+  is-expected e = eqb-true (x .subframe) (subframe-number (s .next)) (passes s let-through checked e .1 .1 .1 .1 .1 .1 .0)
 
   through : accepts (searched s x .answer) ≡ true → searched s x ≡ let-through
   unfolding Pitch-fr
@@ -147,8 +147,8 @@ module _ (σ : State) (m : Last) (inv : In-step σ m) (x : Input) (i : ℕ) wher
   r = σ .reader
 
   module _ (p : SearchedPitch) (h : searched s x .answer ≡ values p) (w : i ≤ cond (one-or-three (x .subframe)) 255 31) where
-    turn : x .subframe ≡ subframe-number (s .next)
-    turn = in-turn s x (ap accepts h)
+    expected : x .subframe ≡ subframe-number (s .next)
+    expected = is-expected s x (ap accepts h)
 
     outcome : searched s x ≡ let-through s x
     outcome = through s x (ap accepts h)
@@ -158,8 +158,8 @@ module _ (σ : State) (m : Last) (inv : In-step σ m) (x : Input) (i : ℕ) wher
 
     reading : read r (x .subframe) i ≡ left-by r i (s .next)
     reading =
-        let e : x .subframe ≡ subframe-number (r .next) = turn ∙ ap subframe-number (sym (inv .same)) in
-        let v : i ≤ cond (absolute (r .next)) 255 31 = rw (inv .same, ← (one-or-three-is (s .next)), ← turn) w in
+        let e : x .subframe ≡ subframe-number (r .next) = expected ∙ ap subframe-number (sym (inv .same)) in
+        let v : i ≤ cond (absolute (r .next)) 255 31 = rw (inv .same, ← (one-or-three-is (s .next)), ← expected) w in
         taken r (x .subframe) i e v ∙ ap (left-by r i) (inv .same)
 
     -- an intact index is read as it was sent, where the reader holds the searcher's lag or needs none
@@ -174,7 +174,7 @@ module _ (σ : State) (m : Last) (inv : In-step σ m) (x : Input) (i : ℕ) wher
     read-back e (inr q) = ap (λ (k : ℕ). lag-of (s .next) k i) (sym q) ∙ own-back e
 
     holds-it : (one-or-three (x .subframe) ≡ true) ⊎ Follows-intact m → (absolute (s .next) ≡ true) ⊎ (s .previous .samples ≡ r .previous .samples)
-    holds-it (inl t) = inl (sym (one-or-three-is (s .next)) ∙ ap one-or-three (sym turn) ∙ t)
+    holds-it (inl t) = inl (sym (one-or-three-is (s .next)) ∙ ap one-or-three (sym expected) ∙ t)
     holds-it (inr f) = go (absolute (s .next)) refl
       where
         go : (t : Bool) → absolute (s .next) ≡ t → (absolute (s .next) ≡ true) ⊎ (s .previous .samples ≡ r .previous .samples)
@@ -186,7 +186,7 @@ module _ (σ : State) (m : Last) (inv : In-step σ m) (x : Input) (i : ℕ) wher
         (last (record { subframe = x .subframe; sent = p; arrived = i; reading = a }))
     stepped a =
         record {
-          is-due = following-is (s .next) ∙ ap (λ (n : ℕ). n % 4 + 1) (sym turn);
+          is-due = following-is (s .next) ∙ ap (λ (n : ℕ). n % 4 + 1) (sym expected);
           same = refl;
           agree =
               λ t e. ap (λ (l : PitchLag). l .samples) (sym (ap (λ (q : SearchedPitch). q .lag) found) ∙ sym (read-back e (inl (before-relative (s .next) t))));
@@ -212,7 +212,7 @@ keeps : (σ : State) (m : Last) (e : Entry) → In-step σ m → Of Within-width
 keeps σ m (search x i) inv w t = searching σ m inv x i (searched (σ .searcher) x .answer) refl w
 keeps σ m reset inv w t = (refl, fresh-in-step)
 keeps σ m (stray n i) inv w t =
-    let a = turned-away (σ .reader) n i (rw (← (inv .is-due), ← (inv .same)) at t) in
+    let a = stray-refused (σ .reader) n i (rw (← (inv .is-due), ← (inv .same)) at t) in
     ((a .0, rw (a .1)), rw (a .1) inv)
 
 all : (σ : State) (m : Last) (es : List Entry) → In-step σ m → Each Within-width m (run σ es) → Each Stray m (run σ es) → Each Recovers m (run σ es)

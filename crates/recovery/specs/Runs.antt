@@ -5,8 +5,8 @@ use lib.IntN.{ℤ}
 use Rattle.refusal.specs.Refused.{Told, values, refused}
 use Rattle.refusal.specs.Checks.{Outcome}
 use Rattle.pitch.specs.declared.PitchLag.{PitchLag}
-use Rattle.pitch.specs.declared.Reader.{Reader}
-use Rattle.pitch.specs.Readers.{fresh-reader, read}
+use Rattle.lag_reader.specs.declared.Reader.{Reader}
+use Rattle.lag_reader.specs.Readers.{fresh-reader, read}
 use Rattle.pitch_search.specs.declared.Search.{Search}
 use Rattle.pitch_search.specs.declared.SearchedPitch.{SearchedPitch}
 use Rattle.pitch_search.specs.Searches.{fresh-search, Pitch-fr}
@@ -58,7 +58,7 @@ pub record Step : Type 0 where
   pub event : Event
   pub after : State
 
--- after a search of subframe n with the index i to arrive: 'there the reader is called once', and 'a refused search hands it nothing'
+-- after a search of subframe n with the index i to arrive: 'there the reader is called once', and 'A refused search hands it nothing'
 abbrev pub answered : State → ℕ → ℕ → Search → Told SearchedPitch → Step
 answered σ n i s (values p) =
     record {

@@ -39,7 +39,7 @@ Follows-intact none = ⊥
 Follows-intact (last q) = Intact q
 
 -- ---- of an event, with the last place before it and the states round it: the two hypotheses and the conclusion
--- 'within the same width (0..255 in subframes 1 and 3, 0..31 in 2 and 4)'
+-- an arriving index is as wide as an index of its subframe is sent: eight bits in one and three, five in two and four
 abbrev pub Within-width : Last → State → Event → State → Type 0
 Within-width m σ (at-place p) τ = p .arrived ≤ cond (one-or-three (p .subframe)) 255 31
 Within-width m σ (search-refused n d) τ = Unit {0}

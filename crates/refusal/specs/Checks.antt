@@ -56,13 +56,17 @@ in-order expected n = record { passes = eqb n expected; number = 4; detail = pos
 abbrev pub pulse-lag : ℕ → Check
 pulse-lag n = record { passes = within 19 144 n; number = 6; detail = pos n }
 
--- number 7: a predicted exponent is -128 to 127
+-- number 7: the exponent of a power is at most 30
+abbrev pub power-exponent : ℕ → Check
+power-exponent n = record { passes = leb n 30; number = 7; detail = pos n }
+
+-- a predicted one -128 to 127
 abbrev pub predicted-exponent : ℤ → Check
 predicted-exponent e = record { passes = leZ (negsuc 127) e && leZ e (pos 127); number = 7; detail = e }
 
--- and its fraction at most 32767
-abbrev pub predicted-fraction : ℕ → Check
-predicted-fraction n = record { passes = leb n 32767; number = 7; detail = pos n }
+-- and the fraction of either at most 32767
+abbrev pub power-fraction : ℕ → Check
+power-fraction n = record { passes = leb n 32767; number = 7; detail = pos n }
 
 -- number 8: a position word is at most 8191
 abbrev pub position-word : ℕ → Check

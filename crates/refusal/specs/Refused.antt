@@ -43,7 +43,7 @@ abbrev pub sign-magnitude : ℤ → Detail
 sign-magnitude (pos n) = record { negative = false; magnitude = n }
 sign-magnitude (negsuc n) = record { negative = true; magnitude = suc n }
 
--- what an entry answers, as 01 gives it: its values, or a number and a detail
+-- what an entry answers, told as 01 gives it and not as the struct or enum that holds it: its values, or a number and a detail
 pub data Told (A : Type 0) : Type 0 where
   values : A → Told A
   refused : ℕ → ℤ → Told A
@@ -53,7 +53,7 @@ abbrev pub accepts : {A : Type 0} → Told A → Bool
 accepts (values a) = true
 accepts (refused n d) = false
 
--- a refusal so told
+-- a refusal, told so; 01: 'What is turned down'
 abbrev pub turned-down : {A : Type 0} → Refusal → Told A
 turned-down r = refused (number r) (detail r)
 

@@ -3,7 +3,6 @@
 use libc::STDIN_FILENO;
 use libc::STDOUT_FILENO;
 use logarithm::Power;
-use refusal::Refusal;
 
 // A record is a byte for the operator and three longs, high byte first.
 const RECORD: usize = 13;
@@ -71,8 +70,8 @@ fn answer(operator: u8, a: i32, b: i32, c: i32) -> i32 {
         15 => long(fixed::rounded(a)),
         16 => long(fixed::high(a)),
         18 => long(fixed::low_word(a)),
-        20 => fixed::multiply(a, b),
-        21 => fixed::multiply_word(a, fixed::low_word(b)),
+        20 => compound::multiply(a, b),
+        21 => compound::multiply_word(a, fixed::low_word(b)),
         22 => fixed::shift(a, fixed::low_word(b)),
         24 => fixed::even(a),
         25 => long(fixed::normalize(a)),
@@ -91,7 +90,7 @@ fn answer_of_words(operator: u8, a: i16, b: i16) -> i32 {
         14 => long(fixed::fractional(a, b)),
         17 => fixed::deposit_high(a),
         23 => long(fixed::shift_word(a, b)),
-        27 => long(fixed::divide(a, b)),
+        27 => long(compound::divide(a, b)),
         _ => 0,
     }
 }
@@ -173,7 +172,7 @@ fn print_arguments(operator: u8, a: i32, b: i32, c: i32) {
 }
 
 fn print_halves(v: i32) {
-    let halves = fixed::split(v);
+    let halves = compound::split(v);
     print_long(long(halves.high));
     print_long(long(halves.low));
 }
@@ -187,15 +186,11 @@ fn print_log2(v: i32) {
 fn print_pow2(exponent: u8, fraction_q15: u16) {
     match logarithm::pow2(exponent, fraction_q15) {
         Power::Value(v) => print_long(v),
-        Power::Refused(r) => print_refused(r),
+        Power::Refused(refusal) => {
+            io::write_all(STDOUT_FILENO, b" ");
+            replay_print::print_refused(refusal);
+        }
     }
-}
-
-fn print_refused(r: Refusal) {
-    io::write_all(STDOUT_FILENO, b" refused");
-    print_natural(r.number() as u64);
-    let detail = r.detail();
-    print_signed(detail.negative, detail.magnitude);
 }
 
 fn print_long(v: i32) {

@@ -26,9 +26,7 @@ fn step() -> bool {
         return false;
     }
     let mut words = [0i16; WORDS];
-    for i in 0..WORDS {
-        words[i] = fixed::word(bytes[2 * i], bytes[2 * i + 1]);
-    }
+    feed::read_words(&bytes, 0, &mut words);
     let all: &[i16] = &words;
     print_record(all);
     true
@@ -53,7 +51,9 @@ fn print_residual(speech: &[i16], coefficients: &[i16]) {
     let answer = encoder_filtering::residual(coefficients, speech, &mut residual);
     io::write_all(STDOUT_FILENO, b"residual");
     match answer {
-        Filtering::Written => print_words(&residual),
+        Filtering::Written => {
+            replay_print::print_words(&residual);
+        }
         Filtering::Refused(refusal) => (),
     }
     io::write_all(STDOUT_FILENO, b"\n");
@@ -84,26 +84,12 @@ fn print_filter(
     io::write_all(STDOUT_FILENO, b"filter");
     match answer {
         Filtering::Written => {
-            print_words(&residual);
-            print_words(&impulse);
-            print_words(&target);
-            print_words(&error);
+            replay_print::print_words(&residual);
+            replay_print::print_words(&impulse);
+            replay_print::print_words(&target);
+            replay_print::print_words(&error);
         }
         Filtering::Refused(refusal) => (),
     }
     io::write_all(STDOUT_FILENO, b"\n");
-}
-
-fn print_words(words: &[i16; 40]) {
-    for i in 0..40 {
-        print_word(words[i]);
-    }
-}
-
-fn print_word(v: i16) {
-    io::write_all(STDOUT_FILENO, b" ");
-    if v < 0 {
-        io::write_all(STDOUT_FILENO, b"-");
-    }
-    io::print_decimal(STDOUT_FILENO, fixed::unsigned_abs(v as i32) as u64);
 }

@@ -2,11 +2,12 @@
 // the published Rust, so the check that the output equals `stdout` compares the library with it.
 use gain::Quantized;
 use gain::QuantizedGain;
-use gain_pitch::Gained;
+use gain_pitch::FoundGain;
 use gain_pitch::PitchGain;
 use libc::STDIN_FILENO;
 use libc::STDOUT_FILENO;
-use refusal::Refusal;
+ghost use mathlib.Core.Path.{_≡_};
+ghost use lib.ListN.{length};
 
 // The most words that a list of a record has.
 const WORDS: usize = 63;
@@ -64,10 +65,7 @@ fn replayed(
     if got < 2 * words {
         return false;
     }
-    let mut samples = [0i16; 189];
-    for i in 0..189 {
-        samples[i] = fixed::word(bytes[2 * i], bytes[2 * i + 1]);
-    }
+    let samples = words_of(&bytes);
     let all: &[i16] = &samples;
     print_answers(
         all,
@@ -79,6 +77,14 @@ fn replayed(
         limit,
     );
     true
+}
+
+fn words_of(bytes: &[u8; 378]) -> [i16; 189]
+    ensures { λ r. ⌜ 189 ≡ length r ⌝ }
+{
+    let mut words = [0i16; 189];
+    feed::read_words(bytes, 0, &mut words);
+    words
 }
 
 fn print_answers(
@@ -116,8 +122,10 @@ fn print_answers(
 
 fn print_pitch_gain(target: &[i16], adaptive: &[i16]) {
     match gain_pitch::pitch_gain(target, adaptive) {
-        Gained::Gain(gained) => print_gain(gained),
-        Gained::Refused(refusal) => print_refused(refusal),
+        FoundGain::Gain(found) => print_gain(found),
+        FoundGain::Refused(refusal) => {
+            replay_print::print_refused(refusal);
+        }
     }
     io::write_all(STDOUT_FILENO, b"\n");
 }
@@ -132,7 +140,9 @@ fn print_quantized(
 ) {
     match gain::quantize(target, adaptive, innovation, exponent, fraction, limit) {
         Quantized::Row(quantized) => print_row(quantized),
-        Quantized::Refused(refusal) => print_refused(refusal),
+        Quantized::Refused(refusal) => {
+            replay_print::print_refused(refusal);
+        }
     }
     io::write_all(STDOUT_FILENO, b"\n");
 }
@@ -141,37 +151,22 @@ fn unsigned(high: u8, low: u8) -> u16 {
     high as u16 * 256 + low as u16
 }
 
-fn print_gain(gained: PitchGain) {
+fn print_gain(found: PitchGain) {
     io::write_all(STDOUT_FILENO, b"pitch_gain");
-    print_word(gained.gain_q14);
-    print_word(gained.yy);
-    print_word(gained.yy_exponent);
-    print_word(gained.xy);
-    print_word(gained.xy_exponent);
+    let numbers = [
+        found.gain_q14,
+        found.yy,
+        found.yy_exponent,
+        found.xy,
+        found.xy_exponent,
+    ];
+    replay_print::print_words(&numbers);
 }
 
 fn print_row(quantized: QuantizedGain) {
     io::write_all(STDOUT_FILENO, b"gain ");
     io::print_decimal(STDOUT_FILENO, quantized.index as u64);
-    print_word(quantized.row.pitch_q14);
-    print_word(quantized.row.correction_q12);
-}
-
-fn print_refused(refusal: Refusal) {
-    io::write_all(STDOUT_FILENO, b"refused ");
-    io::print_decimal(STDOUT_FILENO, refusal.number() as u64);
-    io::write_all(STDOUT_FILENO, b" ");
-    let detail = refusal.detail();
-    if detail.negative {
-        io::write_all(STDOUT_FILENO, b"-");
-    }
-    io::print_decimal(STDOUT_FILENO, detail.magnitude);
-}
-
-fn print_word(v: i16) {
-    io::write_all(STDOUT_FILENO, b" ");
-    if v < 0 {
-        io::write_all(STDOUT_FILENO, b"-");
-    }
-    io::print_decimal(STDOUT_FILENO, fixed::unsigned_abs(v as i32) as u64);
+    let row = quantized.row;
+    let numbers = [row.pitch_q14, row.correction_q12];
+    replay_print::print_words(&numbers);
 }

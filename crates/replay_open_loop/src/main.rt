@@ -4,7 +4,8 @@ use libc::STDIN_FILENO;
 use libc::STDOUT_FILENO;
 use open_loop::Detector;
 use pitch::OpenLoop;
-use refusal::Refusal;
+ghost use mathlib.Core.Path.{_≡_};
+ghost use lib.ListN.{length};
 
 // A record is a byte: 255 for a reset, else the number of words that follow, high byte first.
 const RESET: u8 = 255;
@@ -58,10 +59,7 @@ fn pushed(detector: Detector, count: u8) -> Replay {
             detector,
         };
     }
-    let mut samples = [0i16; 255];
-    for i in 0..words {
-        samples[i] = fixed::word(bytes[2 * i], bytes[2 * i + 1]);
-    }
+    let samples = words_of(&bytes);
     let step = detector.push(&samples[..words]);
     let lag = step.lag;
     print_lag(lag);
@@ -72,21 +70,23 @@ fn pushed(detector: Detector, count: u8) -> Replay {
     }
 }
 
+fn words_of(bytes: &[u8; 510]) -> [i16; 255]
+    ensures { λ r. ⌜ 255 ≡ length r ⌝ }
+{
+    let mut words = [0i16; 255];
+    feed::read_words(bytes, 0, &mut words);
+    words
+}
+
 fn print_lag(lag: OpenLoop) {
     match lag {
         OpenLoop::Lag(found) => {
             io::write_all(STDOUT_FILENO, b"open ");
             io::print_decimal(STDOUT_FILENO, found.samples() as u64);
         }
-        OpenLoop::Refused(refusal) => print_refused(refusal),
+        OpenLoop::Refused(refusal) => {
+            replay_print::print_refused(refusal);
+        }
     }
     io::write_all(STDOUT_FILENO, b"\n");
-}
-
-fn print_refused(refusal: Refusal) {
-    io::write_all(STDOUT_FILENO, b"refused ");
-    io::print_decimal(STDOUT_FILENO, refusal.number() as u64);
-    io::write_all(STDOUT_FILENO, b" ");
-    let detail = refusal.detail();
-    io::print_decimal(STDOUT_FILENO, detail.magnitude);
 }

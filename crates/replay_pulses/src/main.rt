@@ -4,10 +4,11 @@ use codebook::Places;
 use codebook::PulseReading;
 use codebook_search::PulseWords;
 use codebook_search::Pulses;
-use codebook_target::SharpeningGain;
+use codebook_sharpening::SharpeningGain;
 use libc::STDIN_FILENO;
 use libc::STDOUT_FILENO;
-use refusal::Refusal;
+ghost use mathlib.Core.Path.{_≡_};
+ghost use lib.ListN.{length};
 
 // A record's first byte: 0 for a reading, of two words; else a search: the numbers of its target and impulse words, lag, gain, and these words. High bytes first.
 const READING: u8 = 0;
@@ -52,9 +53,11 @@ fn reading() -> bool {
     match read {
         PulseReading::Places(places) => {
             print_places(places);
-            print_words(&samples);
+            replay_print::print_words(&samples);
         }
-        PulseReading::Refused(refusal) => print_refused(refusal),
+        PulseReading::Refused(refusal) => {
+            replay_print::print_refused(refusal);
+        }
     }
     io::write_all(STDOUT_FILENO, b"\n");
     true
@@ -89,13 +92,18 @@ fn searched(target_words: u8, impulse_words: u8, lag: u16, gain: i16) -> bool {
     if got < 2 * words {
         return false;
     }
-    let mut samples = [0i16; 126];
-    for i in 0..126 {
-        samples[i] = fixed::word(bytes[2 * i], bytes[2 * i + 1]);
-    }
+    let samples = words_of(&bytes);
     let all: &[i16] = &samples;
     print_search(all, targets, impulses, lag, gain);
     true
+}
+
+fn words_of(bytes: &[u8; 252]) -> [i16; 126]
+    ensures { λ r. ⌜ 126 ≡ length r ⌝ }
+{
+    let mut words = [0i16; 126];
+    feed::read_words(bytes, 0, &mut words);
+    words
 }
 
 fn print_search(words: &[i16], targets: usize, impulses: usize, lag: u16, gain: i16) {
@@ -123,11 +131,13 @@ fn print_search(words: &[i16], targets: usize, impulses: usize, lag: u16, gain: 
     match answer {
         Pulses::Words(found) => {
             print_pulses(found);
-            print_words(&innovation);
-            print_words(&filtered);
-            print_words(&impulse);
+            replay_print::print_words(&innovation);
+            replay_print::print_words(&filtered);
+            replay_print::print_words(&impulse);
         }
-        Pulses::Refused(refusal) => print_refused(refusal),
+        Pulses::Refused(refusal) => {
+            replay_print::print_refused(refusal);
+        }
     }
     io::write_all(STDOUT_FILENO, b"\n");
 }
@@ -152,26 +162,4 @@ fn print_pulses(words: PulseWords) {
     io::print_decimal(STDOUT_FILENO, words.positions as u64);
     io::write_all(STDOUT_FILENO, b" ");
     io::print_decimal(STDOUT_FILENO, words.signs as u64);
-}
-
-fn print_refused(refusal: Refusal) {
-    io::write_all(STDOUT_FILENO, b"refused ");
-    io::print_decimal(STDOUT_FILENO, refusal.number() as u64);
-    io::write_all(STDOUT_FILENO, b" ");
-    let detail = refusal.detail();
-    io::print_decimal(STDOUT_FILENO, detail.magnitude);
-}
-
-fn print_words(words: &[i16; 40]) {
-    for i in 0..40 {
-        print_word(words[i]);
-    }
-}
-
-fn print_word(v: i16) {
-    io::write_all(STDOUT_FILENO, b" ");
-    if v < 0 {
-        io::write_all(STDOUT_FILENO, b"-");
-    }
-    io::print_decimal(STDOUT_FILENO, fixed::unsigned_abs(v as i32) as u64);
 }

@@ -1,3 +1,2 @@
 -- 01, 'Feed and program': what the contracts of `selection` cite.
-pub mod Lines
 pub mod Steps

@@ -4,7 +4,7 @@
 use super::{
     answers::{Case, answers, printed},
     bodies,
-    feeds::{Feed, Making, Name},
+    feeds::{ENDS, Feed, Making, Name},
 };
 use crate::{
     calls,
@@ -32,6 +32,13 @@ const TRUNCATED: Feed = Feed {
     seed: BODIES[1] as u64 + 300,
 };
 
+/// A feed that ends by a bad kind, the greatest, with bytes behind it that are no records of the feed.
+const UNKNOWN_KIND: Feed = Feed {
+    name: Name::Truncated,
+    records: 60,
+    seed: ENDS - 1,
+};
+
 /// How often each answer and each refusal of a kind must be there, but for the one that ends the
 /// feed.
 const LEAST: usize = 3;
@@ -49,6 +56,9 @@ const REFUSALS: [(u8, u8); 9] = [
 
 const RESET: u8 = 0;
 
+/// The bytes behind a bad kind, at least.
+const BEHIND: usize = 100;
+
 /// Writes what the program reads and prints, and gives its number of records.
 pub fn write(folder: &Path) -> io::Result<usize> {
     let speech = sample()?;
@@ -62,6 +72,21 @@ pub fn write(folder: &Path) -> io::Result<usize> {
     assert_all_met(&feed);
     write_files(folder, &feed, &printed(&feed))?;
     Ok(answers(&feed).len())
+}
+
+/// Writes what the program reads and prints for a feed that a bad kind ends, and gives its number of
+/// records.
+pub fn write_unknown_kind(folder: &Path) -> io::Result<usize> {
+    let feed = [listing(), vec![RESET], bytes(UNKNOWN_KIND)].concat();
+    let answers = answers(&feed);
+    assert!(
+        matches!(answers.last().map(Case::of), Some(Case::Refused9)),
+        "the end of the feed"
+    );
+    let read = length(&feed, answers.len() - 1) + 1;
+    assert!(read + BEHIND <= feed.len(), "bytes behind the bad kind");
+    write_files(folder, &feed, &printed(&feed))?;
+    Ok(answers.len())
 }
 
 /// Writes the feed of 01's listing and the sample, each with what is printed for it.

@@ -19,7 +19,7 @@ use crate::{
 };
 
 /// The words of a filtering record's answer.
-const FILTER_WORDS: usize = 4 * SUBFRAME;
+pub const FILTER_WORDS: usize = 4 * SUBFRAME;
 
 /// What was compared, which answers were met, and how often a feed's end and wrong lengths were.
 pub struct Tally {
@@ -31,9 +31,9 @@ pub struct Tally {
 }
 
 /// What the library keeps from step to step.
-struct Kept {
-    states: [PitchState; 2],
-    history: Vec<i16>,
+pub struct Kept {
+    pub states: [PitchState; 2],
+    pub history: Vec<i16>,
 }
 
 impl Kept {
@@ -59,11 +59,11 @@ struct Place<'a> {
     number: u64,
 }
 
-/// What a step has to answer, to write and to keep.
-struct Expected {
-    answer: StepAnswer,
-    words: Vec<i16>,
-    kept: Kept,
+/// What a step has to answer, to write and to keep. Words that no filtering record writes stay.
+pub struct Expected {
+    pub answer: StepAnswer,
+    pub words: Vec<i16>,
+    pub kept: Kept,
 }
 
 impl Tally {
@@ -228,8 +228,8 @@ fn refused(number: u8, detail: i64) -> StepAnswer {
 
 impl Expected {
     /// The answer to a record, and the stages after it.
-    fn of(answered: &Answered, stages: &Stages) -> Self {
-        let mut words = vec![0; FILTER_WORDS];
+    pub fn of(answered: &Answered, stages: &Stages) -> Self {
+        let mut words = unwritten(FILTER_WORDS);
         let answer = match answered {
             Err(refusal) => refused(refusal.number, refusal.detail),
             Ok(answer) => {
@@ -252,12 +252,12 @@ impl Expected {
         Self::after(answer, words, stages)
     }
 
-    fn at_end(stages: &Stages) -> Self {
+    pub fn at_end(stages: &Stages) -> Self {
         let answer = StepAnswer {
             line: END,
             ..refused(0, 0)
         };
-        Self::after(answer, vec![0; FILTER_WORDS], stages)
+        Self::after(answer, unwritten(FILTER_WORDS), stages)
     }
 
     fn after(answer: StepAnswer, words: Vec<i16>, stages: &Stages) -> Self {

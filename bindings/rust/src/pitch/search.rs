@@ -25,7 +25,7 @@ impl Subframe {
         }
     }
 
-    /// A number that is no subframe is read as 4, as the library does.
+    /// Of a number that the library hands back: 1 to 4, since a `Subframe` was given.
     pub(super) fn of(number: u8) -> Self {
         match number {
             1 => Self::One,

@@ -41,42 +41,42 @@ cast-result-3 c = search signed
 
 mul-result : tie.Need-mul-result
 mul-result c =
-    let h = c .fits .crossed in
+    let h = c .fits .cross in
     rw (toZ-ofZ h, toZ-ofZ (fits-16-32 h)) (twice-fits h)
 
 add-result-2 : tie.Need-add-result-2
 add-result-2 c =
     let f = c .fits .base in
     let g = c .fits .own in
-    let h = c .fits .crossed in
+    let h = c .fits .cross in
     rw (toZ-ofZ f, toZ-ofZ (fits-16-32 f), toZ-ofZ g, toZ-ofZ (fits-16-32 g), toZ-ofZ (sum-32 f g), toZ-ofZ h, toZ-ofZ (fits-16-32 h), toZ-ofZ (twice-fits h))
-    (sum-fits (c .args .base) (c .args .own) (c .args .crossed) f g h)
+    (sum-fits (c .args .base) (c .args .own) (c .args .cross) f g h)
 
 add-result-3 : tie.Need-add-result-3
 add-result-3 c =
     let f = c .fits .base in
     let g = c .fits .own in
-    let h = c .fits .crossed in
-    rw (toZ-ofZ f, toZ-ofZ (fits-16-32 f), toZ-ofZ g, toZ-ofZ (fits-16-32 g), toZ-ofZ (sum-32 f g), toZ-ofZ h, toZ-ofZ (fits-16-32 h), toZ-ofZ (twice-fits h), toZ-ofZ (sum-fits (c .args .base) (c .args .own) (c .args .crossed) f g h))
-    (all-fits (c .args .base) (c .args .own) (c .args .crossed) f g h)
+    let h = c .fits .cross in
+    rw (toZ-ofZ f, toZ-ofZ (fits-16-32 f), toZ-ofZ g, toZ-ofZ (fits-16-32 g), toZ-ofZ (sum-32 f g), toZ-ofZ h, toZ-ofZ (fits-16-32 h), toZ-ofZ (twice-fits h), toZ-ofZ (sum-fits (c .args .base) (c .args .own) (c .args .cross) f g h))
+    (all-fits (c .args .base) (c .args .own) (c .args .cross) f g h)
 
 cast-result-4 : tie.Need-cast-result-4
 cast-result-4 c =
     let f = c .fits .base in
     let g = c .fits .own in
-    let h = c .fits .crossed in
-    let s = all-fits (c .args .base) (c .args .own) (c .args .crossed) f g h in
-    rw (toZ-ofZ f, toZ-ofZ (fits-16-32 f), toZ-ofZ g, toZ-ofZ (fits-16-32 g), toZ-ofZ (sum-32 f g), toZ-ofZ h, toZ-ofZ (fits-16-32 h), toZ-ofZ (twice-fits h), toZ-ofZ (sum-fits (c .args .base) (c .args .own) (c .args .crossed) f g h), toZ-ofZ s, toZ-ofZ (shift-fits 4 s))
-    (word-fits (c .args .base) (c .args .own) (c .args .crossed) f g h)
+    let h = c .fits .cross in
+    let s = all-fits (c .args .base) (c .args .own) (c .args .cross) f g h in
+    rw (toZ-ofZ f, toZ-ofZ (fits-16-32 f), toZ-ofZ g, toZ-ofZ (fits-16-32 g), toZ-ofZ (sum-32 f g), toZ-ofZ h, toZ-ofZ (fits-16-32 h), toZ-ofZ (twice-fits h), toZ-ofZ (sum-fits (c .args .base) (c .args .own) (c .args .cross) f g h), toZ-ofZ s, toZ-ofZ (shift-fits 4 s))
+    (word-fits (c .args .base) (c .args .own) (c .args .cross) f g h)
 
 returns : tie.Need-returns
 returns c =
     let f = c .fits .base in
     let g = c .fits .own in
-    let h = c .fits .crossed in
-    let s = all-fits (c .args .base) (c .args .own) (c .args .crossed) f g h in
-    rw (toZ-ofZ f, toZ-ofZ (fits-16-32 f), toZ-ofZ g, toZ-ofZ (fits-16-32 g), toZ-ofZ (sum-32 f g), toZ-ofZ h, toZ-ofZ (fits-16-32 h), toZ-ofZ (twice-fits h), toZ-ofZ (sum-fits (c .args .base) (c .args .own) (c .args .crossed) f g h), toZ-ofZ s, toZ-ofZ (shift-fits 4 s), toZ-ofZ (word-fits (c .args .base) (c .args .own) (c .args .crossed) f g h))
-    (sym (second-plain (c .args .base) (c .args .own) (f .sfits) (g .sfits) (c .args .crossed) (h .sfits)))
+    let h = c .fits .cross in
+    let s = all-fits (c .args .base) (c .args .own) (c .args .cross) f g h in
+    rw (toZ-ofZ f, toZ-ofZ (fits-16-32 f), toZ-ofZ g, toZ-ofZ (fits-16-32 g), toZ-ofZ (sum-32 f g), toZ-ofZ h, toZ-ofZ (fits-16-32 h), toZ-ofZ (twice-fits h), toZ-ofZ (sum-fits (c .args .base) (c .args .own) (c .args .cross) f g h), toZ-ofZ s, toZ-ofZ (shift-fits 4 s), toZ-ofZ (word-fits (c .args .base) (c .args .own) (c .args .cross) f g h))
+    (sym (second-plain (c .args .base) (c .args .own) (f .sfits) (g .sfits) (c .args .cross) (h .sfits)))
 
 pub second-energy-spec : {M : Type 1} → statement M
 second-energy-spec =

@@ -12,7 +12,7 @@ use Rattle.fixed.proofs.Bounds.{got}
 use Rattle.fixed.specs.Operators.{L-mac}
 use Rattle.fixed.specs.Lists.{at, between}
 use Rattle.fixed.proofs.Lists.{Filled, none-placed, at-end, placed-more}
-use Rattle.fixed.proofs.Rows.{taken, none-taken, term-more, row-done, waiting}
+use Rattle.sums.proofs.Rows.{taken, none-taken, term-more, row-done, waiting}
 use Rattle.codebook_matrix.specs.Matrices.{signed, entry, row, correlations}
 use Rattle.codebook_matrix.proofs.Entries.{mirror, term, terms, entry-known}
 use Rattle.codebook_matrix.proofs.Filling as filling

@@ -8,7 +8,7 @@ use lib.IntN.{pos}
 use mir.Syntax.{w32}
 use Rattle.fixed.specs.Operators.{L-add}
 use Rattle.fixed.proofs.Bounds.{got}
-use Rattle.fixed.proofs.Sums.{squares, energy-from, energy-is}
+use Rattle.sums.proofs.Sums.{squares, energy-from, energy-is}
 use Rattle.codebook_matrix.specs.Matrices.{energy}
 
 energy40-requires : tie.Need-energy40-requires

@@ -39,7 +39,7 @@ returns : tie.Need-returns
 unfolding chosen of-correlation of-impulse code-4i40-17bits
 returns c =
     let s = c .before .before .before in
-    let m = s .before .before .before .before in
+    let m = s .before .before .before in
     let t = m .before .before .before in
     let g = t .before .before in
     let n = g .before .before in

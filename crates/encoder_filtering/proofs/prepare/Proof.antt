@@ -4,9 +4,10 @@ use borrow.Author.Needs.{needs}
 use Rattle.fixed.proofs.Lists.{copied-whole}
 use Rattle.refusal.specs.Refused.{values}
 use Rattle.refusal.specs.Checks.{unless-refused}
-use Rattle.encoder_filtering.specs.declared.PreparedSubframe.{PreparedSubframe}
-use Rattle.encoder_filtering.specs.Subframes.{subframePreProc, written-checks, lists, prepare}
-use Rattle.encoder_filtering.proofs.Lengths.{residual-length, impulse-length, target-length, error-length}
+use Rattle.target_filtering.specs.declared.PreparedSubframe.{PreparedSubframe}
+use Rattle.target_filtering.specs.Subframes.{subframePreProc}
+use Rattle.target_filtering.proofs.Lengths.{residual-length, impulse-length, target-length, error-length, prepared-whole}
+use Rattle.encoder_filtering.specs.Subframes.{written-checks, lists, prepare}
 use Rattle.encoder_filtering.proofs.prepare.Statement.{statement}
 use Rattle.encoder_filtering.proofs.prepare.Tie as tie
 
@@ -103,6 +104,7 @@ returns-10 c =
       rw (
         h .hand-back .ensures,
         p .prepared .ensures,
+        prepared-whole _ _ _ _ _ (d .before .before .before .before .if1 .left) (d .before .before .before .if2 .left) (d .before .before .if3 .left) (d .before .if4 .left) (d .if5 .left),
         copied-whole 40 (made d .«residual_q0») (a .residual-q0 .now) (residual-length _ _ _ _ _) (s .before .before .before .if6 .left),
         copied-whole 40 (made d .«impulse_q12») (a .impulse-q12 .now) (impulse-length _ _ _ _ _) (s .before .before .if7 .left),
         copied-whole 40 (made d .«target_q0») (a .target-q0 .now) (target-length _ _ _ _ _) (s .before .if8 .left),

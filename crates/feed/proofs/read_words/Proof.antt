@@ -23,11 +23,11 @@ returns-2 c =
     let a = c .before .before .before .args in
     rw (lt-leb (a .from + 2 * length (a .list .now)) (length (a .body .now)) (omega arith))
 
-lay-requires : tie.Need-lay-requires
-lay-requires c κs = omega arith
+copy-low-first-requires : tie.Need-copy-low-first-requires
+copy-low-first-requires c κs = omega arith
 
-turn-requires : tie.Need-turn-requires
-turn-requires c κs = search needs
+swap-all-requires : tie.Need-swap-all-requires
+swap-all-requires c κs = search needs
 
 same-length : tie.Need-same-length
 same-length c = search needs
@@ -39,9 +39,9 @@ returns-3 c =
     let a = l .before .before .before .before .before .args in
     let n = length (a .list .now) in
     let h : a .from + 2 * n ≤ length (a .body .now) = omega arith in
-    let e : length (l .lay .last .1 .1 .0) ≡ n = c .before .before .before .list .given in
-    rw (le-leb (a .from + 2 * n) (length (a .body .now)) h) (rw e at (c .before .turn .ensures) ∙ l .lay .ensures)
+    let e : length (l .copy-low-first .last .1 .1 .0) ≡ n = c .before .before .before .list .given in
+    rw (le-leb (a .from + 2 * n) (length (a .body .now)) h) (rw e at (c .before .swap-all .ensures) ∙ l .copy-low-first .ensures)
 
 pub read-words-spec : {M : Type 1} → statement M
 read-words-spec =
-    tie.close (tie.spec returns sub-if2 returns-2 lay-requires turn-requires same-length returns-3)
+    tie.close (tie.spec returns sub-if2 returns-2 copy-low-first-requires swap-all-requires same-length returns-3)

@@ -1,12 +1,11 @@
-use mathlib.Core.Path.{_≡_, refl, _∙_}
-use Prim.Native.Nat.{ℕ, _≤_, _-_}
+use mathlib.Core.Path.{_≡_, refl}
+use Prim.Native.Nat.{ℕ, _-_}
 use lib.IntN.{ℤ, pos}
-use lib.ListN.{length, length-set}
 use mir.Syntax.{w16, w32}
 use mir.Val.{toZ, ofZ}
 use Rattle.fixed.proofs.Bounds.{got}
 use Rattle.fixed.specs.Lists.{at, tabulate}
-use Rattle.fixed.proofs.Lists.{at-tabulate, Filled, filled-more, filled-all}
+use Rattle.fixed.proofs.Lists.{at-tabulate, Filling, filling-more, filling-all}
 use Rattle.filters.specs.Filters.{taps-to, residual-at, Residu, filtered}
 use borrow.Author.Tests.{eq-eqb, ne-eqb}
 use borrow.Author.Needs.{needs}
@@ -15,7 +14,7 @@ use Rattle.filters.proofs.filtered.Statement.{statement}
 use Rattle.filters.proofs.filtered.Tie as tie
 
 abbrev Inv-loop : tie.InvT-loop
-Inv-loop coefficients samples sums residual₀ i₀ residual i = (sums ≡ tabulate (λ k. taps-to coefficients samples k 11) 40) × (i ≤ 40) × (length residual ≡ 40) × Filled (residual-at coefficients samples) (pos 0) i residual
+Inv-loop coefficients samples sums residual₀ i₀ residual i = (sums ≡ tabulate (λ k. taps-to coefficients samples k 11) 40) × Filling (residual-at coefficients samples) 40 i residual
 
 abbrev μ-loop : tie.MeasureT-loop
 μ-loop coefficients samples sums residual₀ i₀ residual i = 40 - i
@@ -32,7 +31,7 @@ tap-sums-requires : tie.Need-tap-sums-requires Inv-loop μ-loop
 tap-sums-requires c κs = (c .before .if1 .left, c .if2 .left)
 
 loop-holds : tie.Need-loop-holds Inv-loop μ-loop
-loop-holds c = (c .tap-sums .ensures, omega arith, refl, λ k l. absurd (omega arith))
+loop-holds c = (c .tap-sums .ensures, (omega arith, refl, λ k l. absurd (omega arith)))
 
 mul-shift : tie.Need-mul-shift Inv-loop μ-loop
 mul-shift c = search needs
@@ -72,12 +71,8 @@ loop-again c =
     let y : at sums i ≡ taps-to (a .coefficients .now) (a .samples .now) i 11 =
     rw (s .loop .inv .0) (at-tabulate (λ k. taps-to (a .coefficients .now) (a .samples .now) k 11) (pos 0) 40 i (omega arith))
     in
-    let e : v ≡ g i = rw (got w16 (c .rounded .ok) (c .rounded .ensures), got w32 (f .shift .ok) (f .shift .ensures), x, y) in (
-      s .loop .inv .0,
-      omega arith,
-      length-set (s .loop .residual) i v ∙ s .loop .inv .2,
-      filled-more g (pos 0) i (s .loop .residual) v (omega arith) e (s .loop .inv .3),
-    )
+    let e : v ≡ g i = rw (got w16 (c .rounded .ok) (c .rounded .ensures), got w32 (f .shift .ok) (f .shift .ensures), x, y) in
+    (s .loop .inv .0, filling-more g 40 i (s .loop .residual) v (omega arith) e (s .loop .inv .1))
 
 returns-3 : tie.Need-returns-3 Inv-loop μ-loop
 unfolding filtered Residu
@@ -85,9 +80,8 @@ returns-3 c =
     let s = c .before in
     let b = s .before .before in
     let a = b .before .before .args in
-    let e : s .loop .i ≡ 40 = omega arith in
     rw (eq-eqb _ 11 (b .before .if1 .left), eq-eqb _ 50 (b .if2 .left))
-    (filled-all (residual-at (a .coefficients .now) (a .samples .now)) (pos 0) 40 (s .loop .residual) (s .loop .inv .2) (rw e at (s .loop .inv .3)))
+    (filling-all (residual-at (a .coefficients .now) (a .samples .now)) 40 (s .loop .i) (s .loop .residual) (omega arith) (s .loop .inv .1))
 
 pub filtered-spec : {M : Type 1} → statement M
 filtered-spec =

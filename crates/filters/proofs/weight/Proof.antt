@@ -1,13 +1,13 @@
-use mathlib.Core.Path.{_≡_, refl, _∙_}
-use Prim.Native.Nat.{_≤_, _-_, _+_}
+use mathlib.Core.Path.{_≡_, refl}
+use Prim.Native.Nat.{_-_, _+_}
 use native.Mathlib.Numerals.{add-one}
 use lib.IntN.{ℤ, pos}
-use lib.ListN.{length, length-set, replicate}
+use lib.ListN.{replicate}
 use mir.Syntax.{w16, w32}
 use mir.Val.{toZ, ofZ}
 use Rattle.fixed.proofs.Bounds.{got}
 use Rattle.fixed.specs.Lists.{at}
-use Rattle.fixed.proofs.Lists.{Filled, filled-more, filled-all}
+use Rattle.fixed.proofs.Lists.{Filling, filling-more, filling-all}
 use Rattle.filters.specs.Filters.{weighted-at, Weight-Ai}
 use borrow.Author.Needs.{needs}
 use native.Mathlib.Omega.{arith}
@@ -15,7 +15,7 @@ use Rattle.filters.proofs.weight.Statement.{statement}
 use Rattle.filters.proofs.weight.Tie as tie
 
 abbrev Inv-loop : tie.InvT-loop
-Inv-loop coefficients factors weighted₀ i₀ weighted i = (i ≤ 10) × (length weighted ≡ 11) × Filled (weighted-at coefficients factors) (pos 0) (i + 1) weighted
+Inv-loop coefficients factors weighted₀ i₀ weighted i = Filling (weighted-at coefficients factors) 11 (i + 1) weighted
 
 abbrev μ-loop : tie.MeasureT-loop
 μ-loop coefficients factors weighted₀ i₀ weighted i = 10 - i
@@ -30,11 +30,8 @@ loop-holds : tie.Need-loop-holds Inv-loop μ-loop
 unfolding weighted-at
 loop-holds c =
     let a = c .before .args in
-    let v : toZ w16 (ofZ w16 (at (a .coefficients .now) 0)) ≡ at (a .coefficients .now) 0 = got w16 (c .weighted .given) refl in (
-      omega arith,
-      refl,
-      filled-more (weighted-at (a .coefficients .now) (a .factors .now)) (pos 0) 0 (replicate 11 (pos 0)) (toZ w16 (ofZ w16 (at (a .coefficients .now) 0))) (omega arith) v (λ k l. absurd (omega arith)),
-    )
+    let v : toZ w16 (ofZ w16 (at (a .coefficients .now) 0)) ≡ at (a .coefficients .now) 0 = got w16 (c .weighted .given) refl in
+    filling-more (weighted-at (a .coefficients .now) (a .factors .now)) 11 0 (replicate 11 (pos 0)) (toZ w16 (ofZ w16 (at (a .coefficients .now) 0))) (omega arith) v (omega arith, refl, λ k l. absurd (omega arith))
 
 add-product : tie.Need-add-product Inv-loop μ-loop
 add-product c = search needs
@@ -84,19 +81,15 @@ loop-again c =
     let v : ℤ = toZ w16 (ofZ w16 (c .rounded .result)) in
     let x : toZ w16 (ofZ w16 (at cs (i + 1))) ≡ at cs (i + 1) = got w16 (p .before .before .product-arg .given) refl in
     let y : toZ w16 (ofZ w16 (at fs i)) ≡ at fs i = got w16 (p .before .product-arg2 .given) refl in
-    let e : v ≡ weighted-at cs fs (i + 1) = rw (got w16 (c .rounded .ok) (c .rounded .ensures), got w32 (p .product .ok) (p .product .ensures), x, y, add-one i) in (
-      omega arith,
-      length-set (s .loop .weighted) (i + 1) v ∙ s .loop .inv .1,
-      filled-more (weighted-at cs fs) (pos 0) (i + 1) (s .loop .weighted) v (omega arith) e (s .loop .inv .2),
-    )
+    let e : v ≡ weighted-at cs fs (i + 1) = rw (got w16 (c .rounded .ok) (c .rounded .ensures), got w32 (p .product .ok) (p .product .ensures), x, y, add-one i) in
+    filling-more (weighted-at cs fs) 11 (i + 1) (s .loop .weighted) v (omega arith) e (s .loop .inv)
 
 returns : tie.Need-returns Inv-loop μ-loop
 unfolding Weight-Ai
 returns c =
     let s = c .before in
-    let b = s .before .before in
-    let e : s .loop .i + 1 ≡ 11 = omega arith in
-    filled-all (weighted-at (b .args .coefficients .now) (b .args .factors .now)) (pos 0) 11 (s .loop .weighted) (s .loop .inv .1) (rw e at (s .loop .inv .2))
+    let a = s .before .before .args in
+    filling-all (weighted-at (a .coefficients .now) (a .factors .now)) 11 (s .loop .i + 1) (s .loop .weighted) (omega arith) (s .loop .inv)
 
 pub weight-spec : {M : Type 1} → statement M
 weight-spec =

@@ -3,7 +3,7 @@ use Prim.Native.Nat.{ℕ, _≤_}
 use native.Mathlib.Omega.{arith}
 use lib.IntN.{ℤ, pos}
 use mir.Syntax.{w16, w32}
-use borrow.Author.Tests.{le-ltb}
+use borrow.Author.Tests.{le-leb}
 use Rattle.fixed.proofs.Bounds.{got}
 use Rattle.refusal.specs.Refused.{values, turned-down}
 use Rattle.refusal.specs.declared.Refusal.{Refusal}
@@ -16,7 +16,7 @@ use Rattle.gain.proofs.gcode0.Tie as tie
 -- a fraction in range is not refused
 accepted : (fraction : ℕ) → fraction ≤ 32767 → Pow2 14 fraction ≡ values (pos (power 14 fraction))
 unfolding Pow2
-accepted fraction h = rw (le-ltb 32767 fraction h)
+accepted fraction h = rw (le-leb fraction 32767 h)
 
 the-power : (fraction : ℕ) → fraction ≤ 32767 → (v : ℤ) → values v ≡ Pow2 14 fraction → v ≡ pos (power 14 fraction)
 the-power fraction h v e = let q : values v ≡ values (pos (power 14 fraction)) = e ∙ accepted fraction h in cc

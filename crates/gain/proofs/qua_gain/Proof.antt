@@ -1,7 +1,7 @@
 use mir.Syntax.{w16}
 use mir.Facts.{toZ-ofZ}
 use Rattle.fixed.proofs.Bounds.{got}
-use Rattle.gain.specs.Rows.{weights, nearest-row, Qua-gain}
+use Rattle.gain.specs.Rows.{weights, Qua-gain}
 use borrow.Author.Needs.{needs}
 use Rattle.gain.proofs.qua_gain.Statement.{statement}
 use Rattle.gain.proofs.qua_gain.Tie as tie
@@ -18,42 +18,28 @@ sub16-requires c κs = search needs
 coefficients-requires : tie.Need-coefficients-requires
 coefficients-requires c κs = search needs
 
-pitches-requires : tie.Need-pitches-requires
-pitches-requires c κs = search needs
-
-corrections-requires : tie.Need-corrections-requires
-corrections-requires c κs = search needs
-
 gcode0-requires : tie.Need-gcode0-requires
 gcode0-requires c κs = search needs
 
-distances-requires : tie.Need-distances-requires
-distances-requires c κs = search needs
-
-nearest-requires : tie.Need-nearest-requires
-nearest-requires c κs = search needs
-
-cast-index : tie.Need-cast-index
-cast-index c = search needs
+nearest-row-requires : tie.Need-nearest-row-requires
+nearest-row-requires c κs = search needs
 
 row-requires : tie.Need-row-requires
 row-requires c κs = search needs
 
 returns : tie.Need-returns
-unfolding Qua-gain weights nearest-row
+unfolding Qua-gain weights
 returns c =
     let n = c .before in
-    let d = n .before .before .before in
-    let g = d .before in
-    let k = g .before .before .before .before .before .before in
+    let g = n .before in
+    let k = g .before .before in
     let s = k .before .before in
     let h = s .before in
     let y = h .before in
     let b = y .before in
     rw (
       c .row .ensures,
-      n .nearest .ensures .0,
-      d .distances .ensures,
+      n .nearest-row .ensures,
       k .coefficients .ensures,
       y .g-pitch .ensures,
       h .shifted40 .ensures,
@@ -71,11 +57,7 @@ qua-gain-spec =
     shifted40-requires
     sub16-requires
     coefficients-requires
-    pitches-requires
-    corrections-requires
     gcode0-requires
-    distances-requires
-    nearest-requires
-    cast-index
+    nearest-row-requires
     row-requires
     returns)

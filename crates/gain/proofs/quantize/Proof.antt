@@ -10,8 +10,8 @@ use borrow.Author.Tests.{eq-eqb, ne-eqb}
 use Rattle.fixed.proofs.Lists.{copied-whole}
 use Rattle.refusal.specs.Refused.{Told, values, refused, number, detail, turned-down}
 use Rattle.refusal.specs.declared.Refusal.{Refusal}
-use Rattle.gain.specs.Limits.{told-limit, limit-choice}
-use Rattle.gain.specs.Rows.{limited, quantize}
+use Rattle.gain_limit.specs.Limits.{told-limit, limit-choice}
+use Rattle.gain.specs.Rows.{quantize}
 use borrow.Author.Needs.{needs}
 use Rattle.gain.proofs.quantize.Statement.{statement}
 use Rattle.gain.proofs.quantize.Tie as tie

@@ -1,72 +1,49 @@
-use mathlib.Core.Path.{sym, ap, _∙_}
+use mathlib.Core.Path.{ap}
 use mir.Syntax.{w32}
 use Rattle.fixed.specs.declared.Flagged.{Flagged}
 use Rattle.fixed.proofs.Bounds.{got}
-use Rattle.gain_pitch.specs.Gains.{flagged-sum, scalar-product}
+use Rattle.gain_pitch.proofs.Overflowed.{anew, kept}
 use borrow.Author.Needs.{needs}
 use Rattle.gain_pitch.proofs.correlation.Statement.{statement}
 use Rattle.gain_pitch.proofs.correlation.Tie as tie
 
-are-quiet-requires : tie.Need-are-quiet-requires
-are-quiet-requires c κs = search needs
+dot-requires : tie.Need-dot-requires
+dot-requires c κs = search needs
 
-plain-requires : tie.Need-plain-requires
-plain-requires c κs = c .before .are-quiet .ensures (c .if1 .taken)
+shifted40-requires : tie.Need-shifted40-requires
+shifted40-requires c κs = search needs
+
+clipped-requires : tie.Need-clipped-requires
+clipped-requires c κs = search needs
 
 normalized-requires : tie.Need-normalized-requires
 normalized-requires c κs = search needs
 
 returns : tie.Need-returns
-unfolding scalar-product
 returns c =
-    let p = c .before in
-    rw (p .plain .ensures .1, c .normalized .ensures, got w32 (p .plain .ok) (p .plain .ensures .0))
-
-clipped-requires : tie.Need-clipped-requires
-clipped-requires c κs = search needs
-
-shifted40-requires : tie.Need-shifted40-requires
-shifted40-requires c κs = search needs
-
-clipped-requires-2 : tie.Need-clipped-requires-2
-clipped-requires-2 c κs = search needs
+    let d2 = c .before .before in
+    let h = d2 .before .before in
+    let i = h .before in
+    let v = got w32 (c .before .struct-told .given .0 .1) (ap (λ (f : Flagged). f .value) (d2 .clipped .ensures)) in
+    rw (anew _ _ _ _ (i .before .dot .ensures) (i .if1 .taken), c .normalized .ensures, v, h .shifted40 .ensures)
 
 normalized-requires-2 : tie.Need-normalized-requires-2
 normalized-requires-2 c κs = search needs
 
 returns-2 : tie.Need-returns-2
-unfolding scalar-product flagged-sum
 returns-2 c =
-    let d2 = c .before .before in
-    let h = d2 .before .before in
-    let i = h .before in
-    let d = i .before in
-    let o = sym (ap (λ (f : Flagged). f .overflow) (d .clipped .ensures)) ∙ i .if2 .taken in
-    rw (o, c .normalized2 .ensures, got w32 (c .before .struct-told .given .0 .1) (ap (λ (f : Flagged). f .value) (d2 .clipped2 .ensures)), h .shifted40 .ensures)
-
-normalized-requires-3 : tie.Need-normalized-requires-3
-normalized-requires-3 c κs = search needs
-
-returns-3 : tie.Need-returns-3
-unfolding scalar-product flagged-sum
-returns-3 c =
     let i = c .before .before in
-    let d = i .before in
-    let o = sym (ap (λ (f : Flagged). f .overflow) (d .clipped .ensures)) ∙ i .if2 .left in
-    rw (o, c .normalized3 .ensures, got w32 (c .before .struct-told2 .given .0 .1) (ap (λ (f : Flagged). f .value) (d .clipped .ensures)))
+    let v = got w32 (c .before .struct-told2 .given .0 .1) (ap (λ (f : Flagged). f .value) (i .before .dot .ensures)) in
+    rw (kept _ _ _ _ (i .before .dot .ensures) (i .if1 .left), c .normalized2 .ensures, v)
 
 pub correlation-spec : {M : Type 1} → statement M
 correlation-spec =
     tie.close
     (tie.spec
-    are-quiet-requires
-    plain-requires
+    dot-requires
+    shifted40-requires
+    clipped-requires
     normalized-requires
     returns
-    clipped-requires
-    shifted40-requires
-    clipped-requires-2
     normalized-requires-2
-    returns-2
-    normalized-requires-3
-    returns-3)
+    returns-2)

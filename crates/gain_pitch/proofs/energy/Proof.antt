@@ -1,8 +1,8 @@
-use mathlib.Core.Path.{sym, ap, _∙_}
+use mathlib.Core.Path.{ap}
 use mir.Syntax.{w32}
 use Rattle.fixed.specs.declared.Flagged.{Flagged}
 use Rattle.fixed.proofs.Bounds.{got}
-use Rattle.gain_pitch.specs.Gains.{flagged-sum, scalar-product}
+use Rattle.gain_pitch.proofs.Overflowed.{anew, kept}
 use borrow.Author.Needs.{needs}
 use Rattle.gain_pitch.proofs.energy.Statement.{statement}
 use Rattle.gain_pitch.proofs.energy.Tie as tie
@@ -20,25 +20,21 @@ normalized-requires : tie.Need-normalized-requires
 normalized-requires c κs = search needs
 
 returns : tie.Need-returns
-unfolding scalar-product flagged-sum
 returns c =
     let d2 = c .before .before in
     let h = d2 .before .before in
     let i = h .before in
-    let d = i .before in
-    let o = sym (ap (λ (f : Flagged). f .overflow) (d .square-sum .ensures)) ∙ i .if1 .taken in
-    rw (o, c .normalized .ensures, got w32 (c .before .struct-told .given .0 .1) (ap (λ (f : Flagged). f .value) (d2 .square-sum2 .ensures)), h .shifted40 .ensures)
+    let v = got w32 (c .before .struct-told .given .0 .1) (ap (λ (f : Flagged). f .value) (d2 .square-sum2 .ensures)) in
+    rw (anew _ _ _ _ (i .before .square-sum .ensures) (i .if1 .taken), c .normalized .ensures, v, h .shifted40 .ensures)
 
 normalized-requires-2 : tie.Need-normalized-requires-2
 normalized-requires-2 c κs = search needs
 
 returns-2 : tie.Need-returns-2
-unfolding scalar-product flagged-sum
 returns-2 c =
     let i = c .before .before in
-    let d = i .before in
-    let o = sym (ap (λ (f : Flagged). f .overflow) (d .square-sum .ensures)) ∙ i .if1 .left in
-    rw (o, c .normalized2 .ensures, got w32 (c .before .struct-told2 .given .0 .1) (ap (λ (f : Flagged). f .value) (d .square-sum .ensures)))
+    let v = got w32 (c .before .struct-told2 .given .0 .1) (ap (λ (f : Flagged). f .value) (i .before .square-sum .ensures)) in
+    rw (kept _ _ _ _ (i .before .square-sum .ensures) (i .if1 .left), c .normalized2 .ensures, v)
 
 pub energy-spec : {M : Type 1} → statement M
 energy-spec =

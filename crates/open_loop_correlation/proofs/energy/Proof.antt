@@ -1,29 +1,41 @@
 use mathlib.Core.Path.{_≡_, refl, sym, ap, _∙_}
-use Prim.Native.Nat.{_≤_, _<_, _-_, _*_, _^_}
+use Prim.Native.Nat.{_≤_, _<_, _-_, _+_, _*_, _^_}
 use native.Mathlib.Omega.{arith}
 use native.Mathlib.Numerals.{add-one}
 use borrow.Author.Needs.{needs}
+use borrow.Author.Tests.{lt-leb}
 use lib.IntN.{pos, natAbs}
 use mir.Facts.{toZ-pos}
 use mir.Syntax.{w16, w32}
 use mir.Val.{toZ, ofZ}
-use Rattle.fixed.specs.Lists.{at}
 use Rattle.fixed.proofs.Bounds.{got, ok}
-use Rattle.fixed.proofs.Sums.{square-is, square-le}
-use Rattle.fixed.proofs.Quiet.{squared}
-use Rattle.open_loop_correlation.proofs.Energies.{energy-whole}
+use Rattle.sums.proofs.Sums.{square-is, square-le}
+use Rattle.sums.specs.Plain.{squared}
+use Rattle.open_loop_correlation.specs.Correlations.{energy-from}
+use Rattle.open_loop_correlation.proofs.Energies.{from, energy-at, energy-within}
 use Rattle.open_loop_correlation.proofs.energy.Statement.{statement}
 use Rattle.open_loop_correlation.proofs.energy.Tie as tie
 
 abbrev Inv-loop : tie.InvT-loop
-Inv-loop words sum₀ i₀ sum i = (i ≤ 223) × (sum ≡ squared (at words) i) × (sum ≤ i * 2 ^ 30)
+Inv-loop words first count sum₀ i₀ sum i = (first + count ≤ 223) × (i ≤ count) × (sum ≡ squared (from words first) i) × (sum ≤ i * 2 ^ 30)
 
 abbrev μ-loop : tie.MeasureT-loop
-μ-loop words sum₀ i₀ sum i = 223 - i
+μ-loop words first count sum₀ i₀ sum i = count - i
+
+returns : tie.Need-returns Inv-loop μ-loop
+unfolding energy-from
+returns c = let a = c .before .args in let e = lt-leb (a .from + a .count) 223 (omega arith) in rw e
+
+returns-2 : tie.Need-returns-2 Inv-loop μ-loop
+unfolding energy-from
+returns-2 c = let a = c .before .before .args in let e = lt-leb (a .from + a .count) 223 (omega arith) in rw e
 
 loop-holds : tie.Need-loop-holds Inv-loop μ-loop
 unfolding squared
-loop-holds c = (omega arith, refl, omega arith)
+loop-holds c = (omega arith, omega arith, refl, omega arith)
+
+add-v : tie.Need-add-v Inv-loop μ-loop
+add-v c = search needs
 
 mul-v : tie.Need-mul-v Inv-loop μ-loop
 mul-v c = search needs
@@ -37,11 +49,13 @@ exact-requires c κs = tt
 -- the square of the word that is taken in
 square : (c : tie.After-exact Inv-loop μ-loop) →
     let s = c .before .before .before in
-    let v = at (s .before .args .words .now) (s .loop .i) in
+    let a = s .before .before .before .args in
+    let v = from (a .words .now) (a .from) (s .loop .i) in
     (toZ w32 (ofZ w32 (c .exact .result)) ≡ pos (natAbs v * natAbs v)) × (natAbs v * natAbs v ≤ 2 ^ 30)
 square c =
     let s = c .before .before .before in
-    let v = at (s .before .args .words .now) (s .loop .i) in
+    let a = s .before .before .before .args in
+    let v = from (a .words .now) (a .from) (s .loop .i) in
     (rw (got w32 (c .exact .ok) (c .exact .ensures), got w16 (c .before .v .given) refl) (square-is v), square-le v (ok w16 v (c .before .v .given)))
 
 cast-sum : tie.Need-cast-sum Inv-loop μ-loop
@@ -53,8 +67,9 @@ cast-sum-2 c = let h = square c in rw (h .0) (record { fits = omega arith })
 add-sum : tie.Need-add-sum Inv-loop μ-loop
 add-sum c =
     let s = c .before .before .before in
+    let p = s .loop .inv .0 in
     let l : s .loop .i < 223 = omega arith in
-    let b = s .loop .inv .2 in
+    let b = s .loop .inv .3 in
     let h = square c in
     rw (h .0) (record { fits = omega arith })
 
@@ -68,18 +83,17 @@ loop-again : tie.Need-loop-again Inv-loop μ-loop
 unfolding squared
 loop-again c =
     let s = c .before .before .before in
-    let l : s .loop .i < 223 = omega arith in
-    let b = s .loop .inv .2 in
+    let b = s .loop .inv .3 in
     let h = square c in
-    rw (h .0) (omega arith, rw (add-one (s .loop .i), s .loop .inv .1), omega (arith, h .1))
+    rw (h .0) (s .loop .inv .0, omega arith, rw (add-one (s .loop .i), s .loop .inv .2), omega (arith, h .1))
 
-returns : tie.Need-returns Inv-loop μ-loop
-returns c =
+returns-3 : tie.Need-returns-3 Inv-loop μ-loop
+returns-3 c =
     let s = c .before .before in
-    let xs = s .before .args .words .now in
-    let e : s .loop .i ≡ 223 = omega arith in
-    let q : s .loop .sum ≡ squared (at xs) 223 = rw e at (s .loop .inv .1) in
-    ap pos (omega arith) ∙ sym (energy-whole xs 223)
+    let a = s .before .before .before .args in
+    let e : s .loop .i ≡ a .count = omega arith in
+    let q : s .loop .sum ≡ squared (from (a .words .now) (a .from)) (a .count) = rw e at (s .loop .inv .2) in
+    ap pos (omega arith) ∙ sym (energy-within (a .words .now) (a .from) (a .count) (omega (arith, s .loop .inv .0)) ∙ energy-at (a .words .now) (a .from) (a .count))
 
 mul-result : tie.Need-mul-result Inv-loop μ-loop
 mul-result c = omega arith
@@ -87,13 +101,13 @@ mul-result c = omega arith
 cast-result : tie.Need-cast-result Inv-loop μ-loop
 cast-result c = record { sfits = omega arith }
 
-returns-2 : tie.Need-returns-2 Inv-loop μ-loop
-returns-2 c =
+returns-4 : tie.Need-returns-4 Inv-loop μ-loop
+returns-4 c =
     let s = c .before .before in
-    let xs = s .before .args .words .now in
-    let e : s .loop .i ≡ 223 = omega arith in
-    let q : s .loop .sum ≡ squared (at xs) 223 = rw e at (s .loop .inv .1) in
-    toZ-pos w32 {n = 2 * s .loop .sum} (omega arith) ∙ ap pos (omega arith) ∙ sym (energy-whole xs 223)
+    let a = s .before .before .before .args in
+    let e : s .loop .i ≡ a .count = omega arith in
+    let q : s .loop .sum ≡ squared (from (a .words .now) (a .from)) (a .count) = rw e at (s .loop .inv .2) in
+    toZ-pos w32 {n = 2 * s .loop .sum} (omega arith) ∙ ap pos (omega arith) ∙ sym (energy-within (a .words .now) (a .from) (a .count) (omega (arith, s .loop .inv .0)) ∙ energy-at (a .words .now) (a .from) (a .count))
 
 pub energy-spec : {M : Type 1} → statement M
 energy-spec =
@@ -101,7 +115,10 @@ energy-spec =
     (tie.spec
     Inv-loop
     μ-loop
+    returns
+    returns-2
     loop-holds
+    add-v
     mul-v
     element-copy-out-v
     exact-requires
@@ -111,7 +128,7 @@ energy-spec =
     add-i
     loop-less
     loop-again
-    returns
+    returns-3
     mul-result
     cast-result
-    returns-2)
+    returns-4)

@@ -1,13 +1,12 @@
-use Rattle.open_loop_correlation.proofs.Lags.{products-more}
-use Rattle.fixed.proofs.Bounds.{got}
-use Rattle.fixed.specs.Lists.{at, L-sum}
-use mir.Val.{ofZ, toZ}
-use mathlib.Core.Path.{ap, _≡_, refl}
-use Rattle.open_loop_correlation.specs.Correlations.{correlation, products}
+use mathlib.Core.Path.{_≡_, refl}
 use Prim.Native.Nat.{_≤_, _-_, _+_}
-use mir.Syntax.{w16, w32}
-use borrow.Author.Needs.{needs}
 use native.Mathlib.Omega.{arith}
+use borrow.Author.Needs.{needs}
+use mir.Syntax.{w32}
+use mir.Val.{toZ}
+use Rattle.fixed.specs.Lists.{L-sum}
+use Rattle.fixed.proofs.Bounds.{got}
+use Rattle.open_loop_correlation.specs.Correlations.{correlation, products}
 use Rattle.open_loop_correlation.proofs.four_at.Statement.{statement}
 use Rattle.open_loop_correlation.proofs.four_at.Tie as tie
 
@@ -21,65 +20,26 @@ loop-holds : tie.Need-loop-holds Inv-loop μ-loop
 unfolding products L-sum
 loop-holds c = (c .pre, omega arith, refl, refl, refl, refl)
 
-add-v : tie.Need-add-v Inv-loop μ-loop
-add-v c = search needs
+grown-requires : tie.Need-grown-requires Inv-loop μ-loop
+grown-requires c κs = (omega arith, omega arith, c .before .loop .inv .2)
 
-mul-v : tie.Need-mul-v Inv-loop μ-loop
-mul-v c = search needs
+add-grown : tie.Need-add-grown Inv-loop μ-loop
+add-grown c = search needs
 
-element-copy-out-v : tie.Need-element-copy-out-v Inv-loop μ-loop
-element-copy-out-v c = search needs
+grown-requires-2 : tie.Need-grown-requires-2 Inv-loop μ-loop
+grown-requires-2 c κs = (omega arith, omega arith, c .before .before .loop .inv .3)
 
-sub-place : tie.Need-sub-place Inv-loop μ-loop
-sub-place c = search needs
+add-grown-2 : tie.Need-add-grown-2 Inv-loop μ-loop
+add-grown-2 c = search needs
 
-add-place : tie.Need-add-place Inv-loop μ-loop
-add-place c = search needs
+grown-requires-3 : tie.Need-grown-requires-3 Inv-loop μ-loop
+grown-requires-3 c κs = (omega arith, omega arith, c .before .before .before .loop .inv .4)
 
-mul-mac : tie.Need-mul-mac Inv-loop μ-loop
-mul-mac c = search needs
+add-grown-3 : tie.Need-add-grown-3 Inv-loop μ-loop
+add-grown-3 c = search needs
 
-element-copy-out-mac : tie.Need-element-copy-out-mac Inv-loop μ-loop
-element-copy-out-mac c = search needs
-
-mac-requires : tie.Need-mac-requires Inv-loop μ-loop
-mac-requires c κs = tt
-
-sub-mac : tie.Need-sub-mac Inv-loop μ-loop
-sub-mac c = search needs
-
-mul-mac-2 : tie.Need-mul-mac-2 Inv-loop μ-loop
-mul-mac-2 c = search needs
-
-element-copy-out-mac-2 : tie.Need-element-copy-out-mac-2 Inv-loop μ-loop
-element-copy-out-mac-2 c = search needs
-
-mac-requires-2 : tie.Need-mac-requires-2 Inv-loop μ-loop
-mac-requires-2 c κs = tt
-
-sub-mac-2 : tie.Need-sub-mac-2 Inv-loop μ-loop
-sub-mac-2 c = search needs
-
-mul-mac-3 : tie.Need-mul-mac-3 Inv-loop μ-loop
-mul-mac-3 c = search needs
-
-element-copy-out-mac-3 : tie.Need-element-copy-out-mac-3 Inv-loop μ-loop
-element-copy-out-mac-3 c = search needs
-
-mac-requires-3 : tie.Need-mac-requires-3 Inv-loop μ-loop
-mac-requires-3 c κs = tt
-
-sub-mac-3 : tie.Need-sub-mac-3 Inv-loop μ-loop
-sub-mac-3 c = search needs
-
-mul-mac-4 : tie.Need-mul-mac-4 Inv-loop μ-loop
-mul-mac-4 c = search needs
-
-element-copy-out-mac-4 : tie.Need-element-copy-out-mac-4 Inv-loop μ-loop
-element-copy-out-mac-4 c = search needs
-
-mac-requires-4 : tie.Need-mac-requires-4 Inv-loop μ-loop
-mac-requires-4 c κs = tt
+grown-requires-4 : tie.Need-grown-requires-4 Inv-loop μ-loop
+grown-requires-4 c κs = (omega arith, omega arith, c .before .before .before .before .loop .inv .5)
 
 add-i : tie.Need-add-i Inv-loop μ-loop
 add-i c = search needs
@@ -89,31 +49,16 @@ loop-less c = search needs
 
 loop-again : tie.Need-loop-again Inv-loop μ-loop
 loop-again c =
-    let s = c .before .before .before .before .before .before .before .before .before .before in
-    let a = s .before .args in
-    let xs = a .words .now in
-    let i = s .loop .i in
-    let l = a .lag in
-    let m1 = c .before .before .before .before .before .before in
-    let m2 = c .before .before .before .before in
-    let m3 = c .before .before in
-    let v : toZ w16 (ofZ w16 (at xs (143 + i))) ≡ at xs (143 + i) = got w16 (m1 .before .before .v .given) refl in
-    let w1 : toZ w16 (ofZ w16 (at xs (143 - l + i))) ≡ at xs (143 - l + i) = got w16 (m1 .before .mac-arg .given) refl in
-    let w2 : toZ w16 (ofZ w16 (at xs (143 - l + i - 1))) ≡ at xs (143 - (l + 1) + i) =
-    got w16 (m2 .before .mac-arg2 .given) (let e : 143 - l + i - 1 ≡ 143 - (l + 1) + i = omega arith in ap (at xs) e)
-    in
-    let w3 : toZ w16 (ofZ w16 (at xs (143 - l + i - 2))) ≡ at xs (143 - (l + 2) + i) =
-    got w16 (m3 .before .mac-arg3 .given) (let e : 143 - l + i - 2 ≡ 143 - (l + 2) + i = omega arith in ap (at xs) e)
-    in
-    let w4 : toZ w16 (ofZ w16 (at xs (143 - l + i - 3))) ≡ at xs (143 - (l + 3) + i) =
-    got w16 (c .before .mac-arg4 .given) (let e : 143 - l + i - 3 ≡ 143 - (l + 3) + i = omega arith in ap (at xs) e)
-    in (
+    let g3 = c .before in
+    let g2 = g3 .before in
+    let g1 = g2 .before in
+    let s = g1 .before .before in (
       s .loop .inv .0,
       omega arith,
-      rw (got w32 (m1 .mac .ok) (m1 .mac .ensures), v, w1, s .loop .inv .2) (products-more xs 143 (143 - l) i),
-      rw (got w32 (m2 .mac2 .ok) (m2 .mac2 .ensures), v, w2, s .loop .inv .3) (products-more xs 143 (143 - (l + 1)) i),
-      rw (got w32 (m3 .mac3 .ok) (m3 .mac3 .ensures), v, w3, s .loop .inv .4) (products-more xs 143 (143 - (l + 2)) i),
-      rw (got w32 (c .mac4 .ok) (c .mac4 .ensures), v, w4, s .loop .inv .5) (products-more xs 143 (143 - (l + 3)) i),
+      got w32 (g1 .grown .ok) (g1 .grown .ensures),
+      got w32 (g2 .grown2 .ok) (g2 .grown2 .ensures),
+      got w32 (g3 .grown3 .ok) (g3 .grown3 .ensures),
+      got w32 (c .grown4 .ok) (c .grown4 .ensures),
     )
 
 returns : tie.Need-returns Inv-loop μ-loop
@@ -130,26 +75,13 @@ four-at-spec =
     Inv-loop
     μ-loop
     loop-holds
-    add-v
-    mul-v
-    element-copy-out-v
-    sub-place
-    add-place
-    mul-mac
-    element-copy-out-mac
-    mac-requires
-    sub-mac
-    mul-mac-2
-    element-copy-out-mac-2
-    mac-requires-2
-    sub-mac-2
-    mul-mac-3
-    element-copy-out-mac-3
-    mac-requires-3
-    sub-mac-3
-    mul-mac-4
-    element-copy-out-mac-4
-    mac-requires-4
+    grown-requires
+    add-grown
+    grown-requires-2
+    add-grown-2
+    grown-requires-3
+    add-grown-3
+    grown-requires-4
     add-i
     loop-less
     loop-again

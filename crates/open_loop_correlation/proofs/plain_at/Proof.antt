@@ -8,7 +8,7 @@ use mir.Facts.{toZ-ofZ}
 use mir.Syntax.{w16, w32}
 use mir.Val.{toZ, ofZ}
 use Rattle.fixed.proofs.Bounds.{got}
-use Rattle.fixed.proofs.Quiet.{plain}
+use Rattle.sums.specs.Plain.{plain}
 use Rattle.open_loop_correlation.proofs.Energies.{Quiet, half, half-fits, whole-fits, whole-is}
 use Rattle.open_loop_correlation.proofs.plain_at.Statement.{statement}
 use Rattle.open_loop_correlation.proofs.plain_at.Tie as tie

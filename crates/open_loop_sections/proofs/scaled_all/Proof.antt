@@ -8,6 +8,7 @@ use Rattle.fixed.proofs.Bounds.{got}
 use Rattle.fixed.specs.Lists.{at}
 use Rattle.fixed.proofs.Lists.{Filled, filled-more, filled-all}
 use Rattle.open_loop_correlation.specs.Correlations.{products}
+use Rattle.open_loop_correlation.proofs.Energies.{energy-within}
 use Rattle.open_loop_sections.specs.Sections.{scaled, scaled-all}
 use borrow.Author.Needs.{needs}
 use native.Mathlib.Omega.{arith}
@@ -21,10 +22,10 @@ abbrev μ-loop : tie.MeasureT-loop
 μ-loop input energy words₀ i₀ words i = 223 - i
 
 energy-requires : tie.Need-energy-requires Inv-loop μ-loop
-energy-requires c κs = omega arith
+energy-requires c κs = tt
 
 loop-holds : tie.Need-loop-holds Inv-loop μ-loop
-loop-holds c = (omega arith, got w32 (c .energy .ok) (c .energy .ensures), refl, λ k l. absurd (omega arith))
+loop-holds c = (omega arith, got w32 (c .energy .ok) (c .energy .ensures ∙ energy-within (c .before .args .input .now) 0 223 (omega arith)), refl, λ k l. absurd (omega arith))
 
 mul-scaled : tie.Need-mul-scaled Inv-loop μ-loop
 mul-scaled c = search needs

@@ -4,9 +4,10 @@ use Rattle.fixed.specs.Lists.{at}
 use lib.Signed.{ltZ}
 use native.Mathlib.Omega.{arith}
 use mathlib.Core.Path.{_∙_, _≡_, refl}
-use Prim.Native.Nat.{_≤_}
+use Prim.Native.Nat.{_-_, _≤_}
 use mir.Syntax.{w16, w32}
 use Rattle.fixed.proofs.Bounds.{got}
+use Rattle.open_loop_correlation.proofs.Energies.{energy-within}
 use Rattle.open_loop_correlation.proofs.Lags.{at-lag}
 use Rattle.open_loop_sections.proofs.Lags.{lag-max-table, lag-max-in}
 use borrow.Author.Needs.{needs}
@@ -65,6 +66,7 @@ returns c =
       got w32 (e .energy .ok) (e .energy .ensures),
       got w32 (m .before .multiply-arg .given) refl,
       l,
+      energy-within xs (143 - Lag-max xs (a .low) (a .span)) 80 (omega (arith, h .1)),
       s .pre .0,
       at-lag xs (Lag-max xs (a .low) (a .span)) (h .0) (h .1),
     )

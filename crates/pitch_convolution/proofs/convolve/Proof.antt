@@ -1,7 +1,9 @@
 use Rattle.pitch_convolution.proofs.Lengths.{convolve-length}
 use Rattle.pitch_convolution.specs.Filters.{Convolve, convolve}
 use Rattle.fixed.proofs.Lists.{copied-whole}
-use mathlib.Core.Path.{_≡_}
+use mathlib.Core.Path.{_≡_, refl}
+use lib.IntN.{pos}
+use lib.ListN.{replicate}
 use borrow.Author.Tests.{eq-eqb, ne-eqb}
 use borrow.Author.Needs.{needs}
 use Rattle.pitch_convolution.proofs.convolve.Statement.{statement}
@@ -59,7 +61,9 @@ returns-4 c =
     rw (
       v .convolved .ensures,
       w .forty2 .ensures,
+      copied-whole 40 (i .impulse-q12 .now) (replicate 40 (pos 0)) (s .before .if2 .left) refl,
       w .before .forty .ensures,
+      copied-whole 40 (i .input .now) (replicate 40 (pos 0)) (s .before .before .if1 .left) refl,
     )
     in (
       rw (a, b, d),

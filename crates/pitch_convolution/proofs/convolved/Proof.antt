@@ -12,7 +12,8 @@ use Rattle.fixed.proofs.Bounds.{ok, got, shift-fits}
 use Rattle.fixed.specs.Lists.{at}
 use Rattle.fixed.proofs.Lists.{at-tabulate, Filling, filling-more, filling-all}
 use Rattle.fixed.proofs.Products.{high-shifted}
-use Rattle.pitch_convolution.specs.Filters.{products-to, convolved-at, Convolve}
+use Rattle.sums.specs.Convolutions.{convolution}
+use Rattle.pitch_convolution.specs.Filters.{convolved-at, Convolve}
 use Rattle.pitch_convolution.proofs.convolved.Statement.{statement}
 use Rattle.pitch_convolution.proofs.convolved.Tie as tie
 
@@ -26,8 +27,8 @@ Inv-loop input impulse sums output₀ n₀ output n = Filling (convolved-at inpu
 abbrev μ-loop : tie.MeasureT-loop
 μ-loop input impulse sums output₀ n₀ output n = 40 - n
 
-sums-requires : tie.Need-sums-requires Inv-loop μ-loop
-sums-requires c κs = tt
+convolution-requires : tie.Need-convolution-requires Inv-loop μ-loop
+convolution-requires c κs = tt
 
 loop-holds : tie.Need-loop-holds Inv-loop μ-loop
 loop-holds c = (omega arith, refl, λ k l. absurd (omega arith))
@@ -57,12 +58,13 @@ loop-again : tie.Need-loop-again Inv-loop μ-loop
 unfolding convolved-at
 loop-again c =
     let s = c .before .before .before in
-    let a = s .before .before .args in
+    let a = s .before .before .before .args in
     let n = s .loop .n in
     let v : ℤ = toZ w16 (ofZ w16 (c .clip16 .result)) in
-    let f : ℕ → ℤ = λ k. products-to (a .input .now) (a .impulse .now) k (suc k) in
-    let q : at (s .before .sums .result) n ≡ f n = rw (s .before .sums .ensures) (at-tabulate f (pos 0) 40 n (omega arith)) in
-    let r = shifted (at (s .before .sums .result) n) (2 ^ 13) (c .before .clip16-arg .given) (c .clip16 .ensures) in
+    let f = convolution (a .input .now) (a .impulse .now) in
+    let sums = s .before .convolution .last .1 .1 .0 in
+    let q : at sums n ≡ f n = rw (s .before .convolution .ensures) (at-tabulate f (pos 0) 40 n (omega arith)) in
+    let r = shifted (at sums n) (2 ^ 13) (c .before .clip16-arg .given) (c .clip16 .ensures) in
     let e : v ≡ convolved-at (a .input .now) (a .impulse .now) n = rw (high-shifted (f n) 3 (omega arith)) (got w16 (c .clip16 .ok) (rw q at r)) in
     filling-more (convolved-at (a .input .now) (a .impulse .now)) 40 n (s .loop .output) v (omega arith) e (s .loop .inv)
 
@@ -70,7 +72,7 @@ returns : tie.Need-returns Inv-loop μ-loop
 unfolding Convolve
 returns c =
     let s = c .before in
-    let a = s .before .before .args in
+    let a = s .before .before .before .args in
     filling-all (convolved-at (a .input .now) (a .impulse .now)) 40 (s .loop .n) (s .loop .output) (omega arith) (s .loop .inv)
 
 pub convolved-spec : {M : Type 1} → statement M
@@ -79,7 +81,7 @@ convolved-spec =
     (tie.spec
     Inv-loop
     μ-loop
-    sums-requires
+    convolution-requires
     loop-holds
     mul-clip16
     array-copy-out-clip16

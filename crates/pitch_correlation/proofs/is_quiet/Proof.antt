@@ -1,5 +1,5 @@
 use mir.Syntax.{w32}
-use Rattle.fixed.proofs.Quiet.{quiet-energy}
+use Rattle.sums.proofs.Quiet.{quiet-energy}
 use Rattle.fixed.proofs.Bounds.{got}
 use Rattle.pitch_correlation.proofs.is_quiet.Statement.{statement}
 use Rattle.pitch_correlation.proofs.is_quiet.Tie as tie

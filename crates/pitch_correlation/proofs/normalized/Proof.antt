@@ -4,7 +4,7 @@ use lib.IntN.{pos}
 use lib.Signed.{ltZ}
 use mir.Syntax.{w16, w32}
 use mir.Val.{toZ, ofZ}
-use Rattle.fixed.proofs.Quiet.{quiet-energy}
+use Rattle.sums.proofs.Quiet.{quiet-energy}
 use Rattle.fixed.proofs.Bounds.{got}
 use Rattle.fixed.proofs.Products.{high-whole}
 use Rattle.energy.specs.Root.{Inv-sqrt}

@@ -1,11 +1,12 @@
-use mathlib.Core.Path.{_≡_}
+use mathlib.Core.Path.{_≡_, refl}
 use mathlib.Core.Bool.{and-eq-true-iff}
 use Prim.Native.Nat.{_≤_, _<_}
 use native.Mathlib.Omega.{arith}
-use lib.ListN.{length}
+use lib.IntN.{pos}
+use lib.ListN.{length, replicate}
 use borrow.Author.Tests.{eqb-true, ltb-true, leb-true}
 use borrow.Author.Needs.{needs}
-use Rattle.fixed.proofs.Lists.{part-whole}
+use Rattle.fixed.proofs.Lists.{copied-whole}
 use Rattle.pitch_correlation.specs.Correlations.{correlations, Norm-Corr}
 use Rattle.pitch_correlation.proofs.normalized_correlation.Statement.{statement}
 use Rattle.pitch_correlation.proofs.normalized_correlation.Tie as tie
@@ -28,19 +29,19 @@ module _ (c : tie.Then1) where
       (eqb-true _ _ (t .0), eqb-true _ _ (t .1), eqb-true _ _ (h .1), ltb-true _ _ (l .1), leb-true _ _ (e .1))
 
 forty-requires : tie.Need-forty-requires
-forty-requires c κs = omega (arith, asked-for c)
+forty-requires c κs = search needs
 
-sub-forty : tie.Need-sub-forty
-sub-forty c = omega (arith, asked-for (c .before))
+sub-forty-from : tie.Need-sub-forty-from
+sub-forty-from c = omega (arith, asked-for (c .before))
 
-forty-requires-2 : tie.Need-forty-requires-2
-forty-requires-2 c κs = omega (arith, asked-for (c .before))
+forty-from-requires : tie.Need-forty-from-requires
+forty-from-requires c κs = omega (arith, asked-for (c .before))
 
 convolved-requires : tie.Need-convolved-requires
 convolved-requires c κs = search needs
 
-forty-requires-3 : tie.Need-forty-requires-3
-forty-requires-3 c κs = omega (arith, asked-for (c .before .before .before .before .before .before))
+forty-requires-2 : tie.Need-forty-requires-2
+forty-requires-2 c κs = search needs
 
 correlated-requires : tie.Need-correlated-requires
 correlated-requires c κs =
@@ -58,12 +59,12 @@ returns c =
     rw (
       q .if1 .taken,
       c .correlated .ensures,
-      t .forty3 .ensures,
+      t .forty2 .ensures,
       v .convolved .ensures,
-      e .forty2 .ensures,
+      e .forty-from .ensures,
       e .before .forty .ensures,
-      part-whole 40 (a .target .now) (asked-for q .1),
-      part-whole 40 (a .impulse .now) (asked-for q .2),
+      copied-whole 40 (a .target .now) (replicate 40 (pos 0)) (asked-for q .1) refl,
+      copied-whole 40 (a .impulse .now) (replicate 40 (pos 0)) (asked-for q .2) refl,
     )
 
 returns-2 : tie.Need-returns-2
@@ -75,10 +76,10 @@ normalized-correlation-spec =
     tie.close
     (tie.spec
     forty-requires
-    sub-forty
-    forty-requires-2
+    sub-forty-from
+    forty-from-requires
     convolved-requires
-    forty-requires-3
+    forty-requires-2
     correlated-requires
     returns
     returns-2)

@@ -9,7 +9,8 @@ use mir.Val.{SFits, toZ, ofZ}
 use mir.Facts.{toZ-ofZ}
 use Rattle.fixed.specs.Lists.{at, dot}
 use Rattle.fixed.proofs.Bounds.{got, fits-abs, abs-mul}
-use Rattle.fixed.proofs.Quiet.{squared, plain, small, quiet, squared-more}
+use Rattle.sums.specs.Plain.{squared, plain}
+use Rattle.sums.proofs.Quiet.{small, quiet, squared-more}
 use Rattle.pitch_correlation.proofs.plain_sum.Statement.{statement}
 use Rattle.pitch_correlation.proofs.plain_sum.Tie as tie
 

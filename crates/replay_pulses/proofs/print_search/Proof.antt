@@ -55,11 +55,20 @@ enum-known-answer c = search needs
 print-pulses-requires : tie.Need-print-pulses-requires
 print-pulses-requires c κs = search needs
 
+slice-aggregate-print-words : tie.Need-slice-aggregate-print-words
+slice-aggregate-print-words c = search needs
+
 print-words-requires : tie.Need-print-words-requires
 print-words-requires c κs = search needs
 
+slice-aggregate-print-words-2 : tie.Need-slice-aggregate-print-words-2
+slice-aggregate-print-words-2 c = search needs
+
 print-words-requires-2 : tie.Need-print-words-requires-2
 print-words-requires-2 c κs = search needs
+
+slice-aggregate-print-words-3 : tie.Need-slice-aggregate-print-words-3
+slice-aggregate-print-words-3 c = search needs
 
 print-words-requires-3 : tie.Need-print-words-requires-3
 print-words-requires-3 c κs = search needs
@@ -99,8 +108,11 @@ print-search-spec =
     search-requires
     enum-known-answer
     print-pulses-requires
+    slice-aggregate-print-words
     print-words-requires
+    slice-aggregate-print-words-2
     print-words-requires-2
+    slice-aggregate-print-words-3
     print-words-requires-3
     enum-known-answer-2
     print-refused-requires

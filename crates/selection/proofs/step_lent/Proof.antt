@@ -1,9 +1,8 @@
 use borrow.Author.Needs.{needs}
 use mathlib.Core.Path.{_≡_, sym, ap, _∙_}
-use lib.ListN.{length}
 use Rattle.refusal.specs.Refused.{values}
 use Rattle.feed.specs.Records.{told-header, whole, header}
-use Rattle.feed.proofs.Standings.{whole-is, body-has}
+use Rattle.feed.proofs.Standings.{whole-is}
 use Rattle.selection.specs.Steps.{step-lent}
 use Rattle.selection.proofs.step_lent.Statement.{statement}
 use Rattle.selection.proofs.step_lent.Tie as tie
@@ -32,7 +31,7 @@ taken-requires : tie.Need-taken-requires
 taken-requires c κs =
     let k = c .before .before .before .before in
     let a = called k .before .before .args in
-    (whole-is (a .feed .now) (a .at) _ _ (stands k) .known, ap length (c .body-at .ensures) ∙ body-has (a .feed .now) (a .at) _ _ (stands k))
+    whole-is (a .feed .now) (a .at) _ _ (stands k) .known
 
 enum-known-refusal : tie.Need-enum-known-refusal
 enum-known-refusal c = search needs

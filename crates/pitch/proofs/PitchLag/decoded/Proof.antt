@@ -10,13 +10,13 @@ from-absolute-requires c κs = tt
 returns : tie.Need-returns
 returns c = rw (← (c .before .before .absolute .ensures), c .before .if1 .taken, c .from-absolute .ensures)
 
-from-relative-requires : tie.Need-from-relative-requires
-from-relative-requires c κs = tt
+relative-requires : tie.Need-relative-requires
+relative-requires c κs = tt
 
 returns-2 : tie.Need-returns-2
-returns-2 c = rw (← (c .before .before .absolute .ensures), c .before .if1 .left, c .from-relative .ensures)
+returns-2 c = rw (← (c .before .before .absolute .ensures), c .before .if1 .left, c .relative .ensures)
 
 pub decoded-spec : {M : Type 1} → statement M
 decoded-spec =
     tie.close
-    (tie.spec absolute-requires from-absolute-requires returns from-relative-requires returns-2)
+    (tie.spec absolute-requires from-absolute-requires returns relative-requires returns-2)

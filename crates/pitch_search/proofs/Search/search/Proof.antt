@@ -29,21 +29,21 @@ module _ (c : tie.Else5) where
       )
 
 refused-requires : tie.Need-refused-requires
-refused-requires c κs = search needs
+refused-requires c κs = tt
 
 returns : tie.Need-returns
 unfolding Pitch-fr
 returns c = rw (ne-eqb _ 194 (c .before .if1 .taken)) (c .refused .ensures)
 
 refused-requires-2 : tie.Need-refused-requires-2
-refused-requires-2 c κs = search needs
+refused-requires-2 c κs = tt
 
 returns-2 : tie.Need-returns-2
 unfolding Pitch-fr
 returns-2 c = rw (eq-eqb _ 194 (c .before .before .if1 .left), ne-eqb _ 40 (c .before .if2 .taken)) (c .refused2 .ensures)
 
 refused-requires-3 : tie.Need-refused-requires-3
-refused-requires-3 c κs = search needs
+refused-requires-3 c κs = tt
 
 returns-3 : tie.Need-returns-3
 unfolding Pitch-fr
@@ -52,7 +52,7 @@ returns-3 c =
     rw (eq-eqb _ 194 (s .before .if1 .left), eq-eqb _ 40 (s .if2 .left), ne-eqb _ 40 (c .before .if3 .taken)) (c .refused3 .ensures)
 
 refused-requires-4 : tie.Need-refused-requires-4
-refused-requires-4 c κs = search needs
+refused-requires-4 c κs = tt
 
 returns-4 : tie.Need-returns-4
 unfolding Pitch-fr
@@ -68,7 +68,7 @@ returns-4 c =
     (c .refused4 .ensures)
 
 refused-requires-5 : tie.Need-refused-requires-5
-refused-requires-5 c κs = search needs
+refused-requires-5 c κs = tt
 
 returns-5 : tie.Need-returns-5
 unfolding Pitch-fr
@@ -85,7 +85,7 @@ returns-5 c =
     (c .refused5 .ensures)
 
 try-new-requires : tie.Need-try-new-requires
-try-new-requires c κs = search needs
+try-new-requires c κs = tt
 
 enum-known-one : tie.Need-enum-known-one
 enum-known-one c = search needs
@@ -94,7 +94,7 @@ enum-told : tie.Need-enum-told
 enum-told c = search needs
 
 refused-requires-6 : tie.Need-refused-requires-6
-refused-requires-6 c κs = search needs
+refused-requires-6 c κs = tt
 
 returns-6 : tie.Need-returns-6
 returns-6 c =
@@ -103,7 +103,7 @@ returns-6 c =
     rw (past (t .before), lag-refused (a .first) (t .try-new .ensures) (c .before .enum-told .given .1)) (c .refused6 .ensures)
 
 try-new-requires-2 : tie.Need-try-new-requires-2
-try-new-requires-2 c κs = search needs
+try-new-requires-2 c κs = tt
 
 enum-known-two : tie.Need-enum-known-two
 enum-known-two c = search needs
@@ -112,7 +112,7 @@ enum-told-2 : tie.Need-enum-told-2
 enum-told-2 c = search needs
 
 refused-requires-7 : tie.Need-refused-requires-7
-refused-requires-7 c κs = search needs
+refused-requires-7 c κs = tt
 
 returns-7 : tie.Need-returns-7
 returns-7 c =
@@ -128,13 +128,13 @@ returns-7 c =
     (c .refused7 .ensures)
 
 number-requires : tie.Need-number-requires
-number-requires c κs = search needs
+number-requires c κs = tt
 
 number-requires-2 : tie.Need-number-requires-2
-number-requires-2 c κs = search needs
+number-requires-2 c κs = tt
 
 refused-requires-8 : tie.Need-refused-requires-8
-refused-requires-8 c κs = search needs
+refused-requires-8 c κs = tt
 
 returns-8 : tie.Need-returns-8
 returns-8 c =
@@ -154,10 +154,10 @@ returns-8 c =
     (c .refused8 .ensures)
 
 samples-requires : tie.Need-samples-requires
-samples-requires c κs = search needs
+samples-requires c κs = tt
 
 samples-requires-2 : tie.Need-samples-requires-2
-samples-requires-2 c κs = search needs
+samples-requires-2 c κs = tt
 
 accepted-requires : tie.Need-accepted-requires
 accepted-requires c κs = search needs

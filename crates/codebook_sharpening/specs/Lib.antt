@@ -1,0 +1,3 @@
+-- Sharpening: what the contracts of `codebook_sharpening` cite.
+pub mod Sharpenings
+pub mod Opens

@@ -1,0 +1,4 @@
+-- The laws that belong to no one function.
+pub mod Leasts
+pub mod Terms
+pub mod Chosen

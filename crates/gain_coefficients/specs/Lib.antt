@@ -1,0 +1,3 @@
+-- What the contracts of `gain_coefficients` cite.
+pub mod Energies
+pub mod Opens

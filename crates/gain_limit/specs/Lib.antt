@@ -1,0 +1,2 @@
+-- What the contracts of `gain_limit` cite.
+pub mod Limits

@@ -1,0 +1,3 @@
+-- What the contracts of `gain_sums` cite.
+pub mod Sums
+pub mod Opens

@@ -1,0 +1,51 @@
+use Prim.Native.Nat.{_≤_, _-_}
+use mathlib.Core.Path.{_≡_}
+use lib.ListN.{length}
+use borrow.Author.Needs.{needs}
+use Rattle.replay_print.proofs.print_words.Statement.{statement}
+use Rattle.replay_print.proofs.print_words.Tie as tie
+
+abbrev Inv-loop : tie.InvT-loop
+Inv-loop words i₀ i-end i = (i-end ≡ length words) × (i ≤ i-end)
+
+abbrev μ-loop : tie.MeasureT-loop
+μ-loop words i₀ i-end i = i-end - i
+
+loop-holds : tie.Need-loop-holds Inv-loop μ-loop
+loop-holds c = search needs
+
+mul-print-word : tie.Need-mul-print-word Inv-loop μ-loop
+mul-print-word c = search needs
+
+shared-slice-copy-out-print-word : tie.Need-shared-slice-copy-out-print-word Inv-loop μ-loop
+shared-slice-copy-out-print-word c = search needs
+
+print-word-requires : tie.Need-print-word-requires Inv-loop μ-loop
+print-word-requires c κs = search needs
+
+add-i : tie.Need-add-i Inv-loop μ-loop
+add-i c = search needs
+
+loop-less : tie.Need-loop-less Inv-loop μ-loop
+loop-less c = search needs
+
+loop-again : tie.Need-loop-again Inv-loop μ-loop
+loop-again c = search needs
+
+returns : tie.Need-returns Inv-loop μ-loop
+returns c = search needs
+
+pub print-words-spec : {M : Type 1} → statement M
+print-words-spec =
+    tie.close
+    (tie.spec
+    Inv-loop
+    μ-loop
+    loop-holds
+    mul-print-word
+    shared-slice-copy-out-print-word
+    print-word-requires
+    add-i
+    loop-less
+    loop-again
+    returns)

@@ -1,0 +1,2 @@
+-- 01, 'Feed and program': what the contracts of `selection_records` cite.
+pub mod Records
