@@ -192,12 +192,8 @@ fn write_feed(name: &str, records: &str, seed: &str) -> Result<ExitCode, String>
 /// feeds to theirs.
 fn record_samples(folder: &Path, feeds: &Path) -> Result<ExitCode, String> {
     type Write = fn(&Path) -> io::Result<usize>;
-    let samples: [(&str, Write); 7] = [
+    let samples: [(&str, Write); 3] = [
         ("replay", record::write),
-        ("replay_open_loop", open_loop::record::write),
-        ("replay_filtering", filtering::record::write),
-        ("replay_pulses", pulses::record::write),
-        ("replay_gain", gain::record::write),
         ("select", selection::record::write),
         ("select_unknown_kind", selection::record::write_unknown_kind),
     ];

@@ -1,9 +1,11 @@
-//! The recorded sample: inputs of each operator with the answers of the published Rust, for the
-//! replay program. The library's answers are not asked for.
+//! The recorded sample: inputs of the operators and of the stages with the answers of the published
+//! Rust, for the replay program. The library's answers are not asked for.
 //!
-//! A record of `stdin` has 13 bytes: the operator's number and three arguments of 4 bytes, high
-//! byte first, 0 where the operator has no such argument. `stdout` has a title and a line for each
-//! record: the operator's name, its arguments and the answer.
+//! A record of `stdin` is a byte that tells what it is of, and what the operator or the stage needs,
+//! high bytes first. `stdout` has a title and a line or two for each record.
+//!
+//! An operator's record is its number, three arguments of 4 bytes, 0 where the operator has no such
+//! argument, the length of its name and the name. Its line is the name, the arguments and the answer.
 
 use crate::{
     codec::mr74::{
@@ -11,8 +13,9 @@ use crate::{
         gain::{self, quantization},
         logarithm, pitch,
     },
+    filtering,
     inputs::{Argument, Random},
-    published,
+    open_loop, published, pulses,
 };
 use std::{
     fmt::{Display, Write},
@@ -32,14 +35,58 @@ const ENDS: usize = 35;
 /// Random points that are given for an operator whose answers are otherwise mostly alike.
 const POINTS: usize = 30;
 
-/// Writes the sample and gives its number of records.
-pub fn write(folder: &Path) -> io::Result<usize> {
-    let sample = sample();
-    write_files(folder, &sample.stdin, &sample.stdout)?;
-    Ok(sample.records)
+/// What a record is of.
+#[derive(Clone, Copy)]
+pub enum Of {
+    Operator = 0,
+    HalfFrame = 1,
+    Filtering = 2,
+    Pulses = 3,
+    GainRow = 4,
 }
 
-/// Writes what a replay program reads and prints.
+/// Records and what is printed for them.
+#[derive(Default)]
+pub struct Recorded {
+    pub stdin: Vec<u8>,
+    pub stdout: String,
+    pub records: usize,
+}
+
+impl Recorded {
+    pub fn begin(&mut self, of: Of) {
+        self.records += 1;
+        self.stdin.push(of as u8);
+    }
+
+    /// Adds a line with a name and numbers.
+    pub fn line(&mut self, name: &str, numbers: impl IntoIterator<Item: Display>) {
+        push_line(&mut self.stdout, name, numbers);
+    }
+
+    pub fn add(&mut self, part: Self) {
+        self.stdin.extend(part.stdin);
+        self.stdout.push_str(&part.stdout);
+        self.records += part.records;
+    }
+}
+
+/// Writes the sample and gives its number of records.
+pub fn write(folder: &Path) -> io::Result<usize> {
+    let mut all = Recorded {
+        stdout: TITLE.to_string(),
+        ..Recorded::default()
+    };
+    all.add(sample());
+    all.add(open_loop::record::sample());
+    all.add(filtering::record::sample());
+    all.add(pulses::record::sample());
+    all.add(crate::gain::record::sample());
+    write_files(folder, &all.stdin, &all.stdout)?;
+    Ok(all.records)
+}
+
+/// Writes what a program reads and prints.
 pub fn write_files(folder: &Path, stdin: &[u8], stdout: &str) -> io::Result<()> {
     fs::create_dir_all(folder)?;
     fs::write(folder.join("stdin"), stdin)?;
@@ -56,9 +103,7 @@ pub fn push_line(lines: &mut String, name: &str, numbers: impl IntoIterator<Item
 }
 
 struct Sample {
-    stdin: Vec<u8>,
-    stdout: String,
-    records: usize,
+    recorded: Recorded,
     random: Random,
 }
 
@@ -83,18 +128,21 @@ impl Sample {
     }
 
     fn record(&mut self, number: u8, name: &str, arguments: &[i64], answer: &str) {
-        self.records += 1;
-        self.stdin.push(number);
+        let recorded = &mut self.recorded;
+        recorded.begin(Of::Operator);
+        recorded.stdin.push(number);
         for place in 0..ARGUMENTS {
             let argument = arguments.get(place).copied().unwrap_or(0);
             let argument = i32::try_from(argument).expect("an argument of at most 32 bits");
-            self.stdin.extend(argument.to_be_bytes());
+            recorded.stdin.extend(argument.to_be_bytes());
         }
-        self.stdout.push_str(name);
+        recorded.stdin.push(name.len() as u8);
+        recorded.stdin.extend(name.bytes());
+        recorded.stdout.push_str(name);
         for argument in arguments {
-            self.stdout.push_str(&format!(" {argument}"));
+            recorded.stdout.push_str(&format!(" {argument}"));
         }
-        self.stdout.push_str(&format!(" {answer}\n"));
+        recorded.stdout.push_str(&format!(" {answer}\n"));
     }
 
     /// At most `count` of the inputs, chosen at random.
@@ -154,13 +202,11 @@ impl Answer for Result<i32, u64> {
     }
 }
 
-fn sample() -> Sample {
+fn sample() -> Recorded {
     const LEAST: i16 = i16::MIN;
     const MOST: i16 = i16::MAX;
     let mut sample = Sample {
-        stdin: Vec::new(),
-        stdout: TITLE.to_string(),
-        records: 0,
+        recorded: Recorded::default(),
         random: Random::at(0),
     };
     let s = &mut sample;
@@ -240,5 +286,5 @@ fn sample() -> Sample {
     powers.extend(s.points(|random| (random.below(31) as u8, random.below(1 << 15) as u16)));
     s.operator(30, "pow2", &powers, |(a, b)| published::pow2(a, b));
 
-    sample
+    sample.recorded
 }

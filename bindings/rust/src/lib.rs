@@ -1,8 +1,9 @@
 //! The selection stages of the MR74 (7.4 kbit/s, IS-641 / TIA-136) speech encoder, proved, for Rust.
 //!
-//! Modules, names and arguments are those of the original, below `codec::mr74`; README.md has the
-//! lines that change there. No call panics: what is turned down is a [`Refusal`], and then nothing
-//! has changed. [`entries`] has the library's functions as they are, for lists of any length.
+//! Modules, names and arguments are those of the original, below `codec::mr74`, but for the
+//! sharpening gain's type and for `quantize`, which takes the prediction; README.md has the lines
+//! that change there. No call panics: what is turned down is a [`Refusal`], and then nothing has
+//! changed. [`entries`] has the library's functions as they are, for lists of any length.
 
 #![deny(unsafe_code)]
 

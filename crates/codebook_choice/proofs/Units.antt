@@ -86,7 +86,7 @@ pub within-16 : (z : ℤ) → Within 524288 524287 z → mag (shrZ z 16) < 2 ^ 1
 within-16 (pos n) p = omega arith
 within-16 (negsuc n) p = omega arith
 
--- a narrower range
+-- a wider range
 pub within-more : (l h k g : ℕ) (z : ℤ) → Within l h z → l ≤ k → h ≤ g → Within k g z
 within-more l h k g (pos n) p a b = omega arith
 within-more l h k g (negsuc n) p a b = omega arith

@@ -16,7 +16,7 @@ const INVERSE_SCALE_SHIFT: i16 = 7;
 
 const IMPULSE_HEADROOM_Q15: i16 = 32440;
 
-// Twice 2^30 - 2^14.
+// Twice 2^30 - 2^14: an energy below it leaves room for the rounding too.
 const ROOM: i32 = 2147450880;
 
 pub fn impulse_correlation(impulse: &[i16; 40], signs: &[i16; 40]) -> [[i16; 40]; 40]
@@ -25,7 +25,7 @@ pub fn impulse_correlation(impulse: &[i16; 40], signs: &[i16; 40]) -> [[i16; 40]
     correlations(&normalized(impulse), signs)
 }
 
-// Halves where the energy is at the clip, else about the inverse of the energy's root.
+// Halves where the energy's high word is 32767, else the words by about the inverse of the energy's root.
 fn normalized(impulse: &[i16; 40]) -> [i16; 40]
     ensures { λ r. ⌜ r ≡ normalised (now (impulse .entry)) ⌝ }
 {

@@ -13,7 +13,7 @@ const TRACKS: usize = 5;
 
 const POSITIONS_PER_TRACK: usize = 8;
 
-// Four of a track's eight places may start.
+// So often a place of a track loses the right to start.
 const DROPS_PER_TRACK: usize = 4;
 
 const DROPS: usize = 20;
@@ -49,7 +49,7 @@ fn raw_correlations(target: &[i16; 40], impulse: &[i16; 40]) -> [i32; 40]
     raw
 }
 
-// Half of each track's largest magnitude.
+// 5, and half of each track's greatest magnitude.
 fn total(raw: &[i32; 40]) -> i32
     ensures { λ r. ⌜ r ≡ total (now (raw .entry)) ⌝ }
 {

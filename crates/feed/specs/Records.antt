@@ -10,7 +10,7 @@ use Rattle.refusal.specs.Checks.{Check, checked}
 use Rattle.feed.specs.declared.Header.{Header}
 use Rattle.feed.specs.declared.Header.the-variants.{End, Record, Refused}
 
--- 'reset .., 0 bytes', 'half frame, 160', 'pitch, 551', 'pulses, 163', 'gain, 245', 'filtering, 184', 'lag reading, 2'
+-- '0 reset of detector, searcher and reader, 0 bytes', 'half frame, 160', 'pitch, 551', 'pulses, 163', 'gain, 245', 'filtering, 184', 'lag reading, 2'
 unfoldable pub lengths : List ℕ
 lengths = 0 ∷ 160 ∷ 551 ∷ 163 ∷ 245 ∷ 184 ∷ 2 ∷ []
 
@@ -22,7 +22,7 @@ body-length kind = getD lengths kind 0
 abbrev pub known-kind : ℕ → Check
 known-kind kind = record { passes = leb kind 6; number = 9; detail = pos kind }
 
--- number 10: the body bytes present are those that the kind needs
+-- number 10: there are as many body bytes as the kind needs
 abbrev pub whole-body : ℕ → ℕ → Check
 whole-body needed present = record { passes = leb needed present; number = 10; detail = pos present }
 

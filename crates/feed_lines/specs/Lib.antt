@@ -1,1 +1,2 @@
+-- What the contracts of `feed_lines` cite.
 pub mod Endings

@@ -319,7 +319,7 @@ fn goes_on(answer: Answer) -> bool {
     }
 }
 
-// Where fewer bytes are left than a line may have, the block is written first.
+// Behind the last place where a line may begin, the block is written first.
 fn line_start(output: &[u8; 65536], filled: usize) -> Place
     ensures { λ r. ⌜ r .filled ≤ 61440 ⌝ }
 {

@@ -1,4 +1,4 @@
-// The linear prediction filter A(z), TS 26.073 Weight_Ai and Residu: `weight` of postfilter.rs, the sums of encoder_filtering.rs's `residual`.
+// The linear prediction filter A(z), TS 26.073 Weight_Ai and Residu: `weight` of postfilter.rs, `residual` of encoder_filtering.rs.
 ghost use mathlib.Core.Path.{_≡_};
 ghost use lib.ListN.{length};
 ghost use Rattle.fixed.specs.Lists.{tabulate};

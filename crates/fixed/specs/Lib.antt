@@ -1,4 +1,4 @@
--- What the contracts of `fixed` cite.
+-- What the contracts of `fixed`, and of the crates above it, cite.
 pub mod Clip
 pub mod Operators
 pub mod Line

@@ -14,7 +14,7 @@ use Rattle.gain_table.specs.Rows.{pitch, correction}
 unfoldable pub products : ℤ → ℤ → List ℤ
 products pitch code = mult pitch pitch ∷ pitch ∷ mult code code ∷ code ∷ mult code pitch ∷ []
 
--- one more term: 'L_tmp = L_add (L_tmp, Mpy_32_16 (coeff[i], coeff_lo[i], ..))'
+-- one more term: L_add of Mpy_32_16 of a coefficient and a product
 unfoldable pub term : ℤ → ℤ → ℤ → ℤ
 term s weight product = L-add s (Mpy-32-16 weight product)
 

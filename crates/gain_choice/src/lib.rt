@@ -11,7 +11,7 @@ ghost use Rattle.gain_choice.specs.Rows.{term, distances, nearest, neare
 
 const ROWS: usize = 128;
 
-// The index of the nearest row whose pitch gain is within the limit.
+// The index of the nearest row whose pitch gain is within the limit, 0 where there is none.
 pub fn nearest_row(weights: &[i32; 5], gcode0: i16, limit_q14: i16) -> u16
     ensures { λ r. ⌜ r ≡ nearest-row (now (weights .entry)) gcode0 «limit_q14» ⌝ }
 {
@@ -102,7 +102,7 @@ fn weighted(weight: i32, product: i16) -> i32
     2 * (fixed::exact(halves.high, product) + (fixed::exact(halves.low, product) >> 15))
 }
 
-// The lowest of the rows within the limit that are nearest; row 0 is within every limit.
+// The lowest of the rows within the limit that are nearest. Row 0 is within both limits of the stage, and is answered where no row is.
 fn nearest(far: &[i32; 128], pitches_q14: &[i16; 128], limit_q14: i16) -> usize
     requires { ⌜ now «pitches_q14» ≡ pitches ⌝ }
     ensures { λ r. ⌜ (r ≡ nearest (λ k. leZ (pitch k) «limit_q14») (at (now (far .entry))) 127) × (r ≤ 127) ⌝ }

@@ -13,7 +13,7 @@ use Rattle.gain_coefficients.specs.declared.Coefficient.{Coefficient}
 abbrev pub coefficient : ℤ → ℤ → Coefficient
 coefficient fraction exponent = record { fraction = fraction; exponent = exponent }
 
--- 'exp = norm_l (s); frac_coeff = extract_h (L_shl (s, exp)); exp_coeff = sub (bias, exp)'. 01's wrong turn is 'rounding where `energy_coefficients` only shifts'
+-- a sum brought up by norm_l, its high word, and the bias less the places. 01's wrong turn is 'rounding where `energy_coefficients` only shifts'
 unfoldable pub cut : ℤ → ℤ → Coefficient
 cut s bias = coefficient (extract-h (L-shl s (pos (norm-l s)))) (sub bias (pos (norm-l s)))
 
@@ -38,6 +38,7 @@ calc-filt-energies xs ys zs g =
 abbrev pub scales : ℤ → List ℤ
 scales code = negsuc 12 ∷ negsuc 13 ∷ add (pos 15) (shl code (pos 1)) ∷ code ∷ add (pos 1) code ∷ []
 
+-- a scale added to the exponent
 abbrev pub raised : Coefficient → ℤ → Coefficient
 raised c scale = coefficient (c .fraction) (add (c .exponent) scale)
 

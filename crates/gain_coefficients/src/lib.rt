@@ -54,7 +54,7 @@ fn energy(words: &[i16; 40], bias: i16) -> Coefficient
 fn product(left: &[i16; 40], right: &[i16; 40], bias: i16) -> Coefficient
     ensures { λ r. ⌜ r ≡ cut (sum (now (left .entry)) (now (right .entry)) 40) bias ⌝ }
 {
-    cut(gain_sums::dot(left, right).value, bias)
+    cut(gain_sums::dot_value(left, right), bias)
 }
 
 fn negated(c: Coefficient) -> Coefficient

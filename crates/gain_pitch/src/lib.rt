@@ -52,7 +52,7 @@ pub fn g_pitch(target: &[i16; 40], adaptive: &[i16; 40]) -> PitchGain
     }
 }
 
-// A long with its highest bit brought up, as a word, and by how many places.
+// A long with its highest bit brought up, as a word, and by how many places, less those that a sum made anew takes off.
 struct ScaledWord {
     word: i16,
     exponent: i16,

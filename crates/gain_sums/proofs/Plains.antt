@@ -18,6 +18,7 @@ use Rattle.sums.specs.Plain.{plain}
 use Rattle.gain_sums.specs.Sums.{sum, overflow}
 
 module _ (xs ys : List ℤ) where
+  -- quiet beside each other: no product is so great that a step could be clipped
   abbrev pub Quiet : Type 0
   Quiet = (k : ℕ) → k < 40 → natAbs (at xs k) * natAbs (at ys k) ≤ 26843545
 

@@ -30,7 +30,17 @@ pub fn dot(left: &[i16; 40], right: &[i16; 40]) -> fixed::Flagged
     clipped(left, right)
 }
 
-// The same without a look whether it can clip.
+// Its value alone.
+pub fn dot_value(left: &[i16; 40], right: &[i16; 40]) -> i32
+    ensures { λ r. ⌜ r ≡ sum (now (left .entry)) (now (right .entry)) 40 ⌝ }
+{
+    if are_quiet(left, right) {
+        return plain(left, right);
+    }
+    clipped(left, right).value
+}
+
+// Both without a look whether a step can be clipped.
 pub fn clipped(left: &[i16; 40], right: &[i16; 40]) -> fixed::Flagged
     ensures { λ r. ⌜ r ≡ flagged-sum (now (left .entry)) (now (right .entry)) 40 ⌝ }
 {
@@ -46,14 +56,14 @@ pub fn clipped(left: &[i16; 40], right: &[i16; 40]) -> fixed::Flagged
 
 // ---- The same where no product is so great that a step could be clipped: at most a fortieth of 2 ^ 30.
 
-// The greatest magnitudes tell.
+// Whether two lists are quiet beside each other: no product of theirs is greater. The greatest magnitudes tell.
 fn are_quiet(left: &[i16; 40], right: &[i16; 40]) -> bool
     ensures { λ r. ⌜ (r ≡ true → (k : ℕ) → k < 40 → natAbs (at (now (left .entry)) k) * natAbs (at (now (right .entry)) k) ≤ 26843545) ⌝ }
 {
     sums::peak(left) as u32 * sums::peak(right) as u32 <= 26843545
 }
 
-// Half the sum, from which the compiler makes products of eight words at once.
+// Half the sum, doubled at the end: the compiler makes products of eight words at once of it.
 fn plain(left: &[i16; 40], right: &[i16; 40]) -> i32
     requires { ⌜ ((k : ℕ) → k < 40 → natAbs (at (now left) k) * natAbs (at (now right) k) ≤ 26843545) ⌝ }
     ensures { λ r. ⌜ (r ≡ sum (now (left .entry)) (now (right .entry)) 40) × (overflow (now (left .entry)) (now (right .entry)) 40 ≡ false) ⌝ }

@@ -37,7 +37,7 @@ refused-pitch n d after =
       next = after .next;
     }
 
--- by the answer
+-- an answer as 01 gives it, and the state after it, as the struct
 abbrev pub told-pitch : Told SearchedPitch → PitchState → PitchAnswer
 told-pitch (values p) after = accepted-pitch (p .index) (p .lag) after
 told-pitch (refused n d) after = refused-pitch n d after

@@ -1,4 +1,4 @@
-// The operators of `fixed` and the inverse root under plain names, for the oracle alone.
+// The operators of `fixed` and `compound`, two sums of 40 words and the inverse root, under plain names, for the oracle alone.
 use fixed::Halves;
 ghost use mathlib.Core.Path.{_≡_};
 ghost use Prim.Native.Nat.{min};

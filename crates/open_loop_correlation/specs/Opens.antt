@@ -1,4 +1,4 @@
--- One name for an `unfolding` line that computes the definitions of this crate.
+-- One name for an `unfolding` line that computes what the lag is defined by.
 use Rattle.fixed.specs.Opens.{fixed-opens}
 use Rattle.open_loop_correlation.specs.Correlations.{products, correlation}
 

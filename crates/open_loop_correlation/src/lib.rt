@@ -60,7 +60,7 @@ fn plain_table(words: &[i16; 223]) -> [i32; 144]
     table
 }
 
-// Half the sum, from which the compiler makes products of eight words at once.
+// Half the sum, doubled at the end: the compiler makes products of eight words at once of it.
 fn plain_at(words: &[i16; 223], lag: usize) -> i32
     requires { ⌜ (lag ≤ 143) × (ltZ (products (now words) 0 0 223) (pos 2147483647) ≡ true) ⌝ }
     ensures { λ r. ⌜ r ≡ correlation (now (words .entry)) lag ⌝ }

@@ -1,4 +1,4 @@
--- The window and index rules undo each other, for every window and every upper lag.
+-- The lag of a lag's index is that lag, for every window and every upper lag from 40 to 143.
 use mathlib.Core.Path.{_≡_, refl, ap}
 use mathlib.Core.Bool.{Bool, true, false}
 use mathlib.Core.Logic.{_⊎_, inl, inr}
@@ -88,7 +88,7 @@ module _ (start : ℕ) (h : 20 ≤ start) (l : PitchLag) (low : 3 * start ≤ in
 
 -- ---- the two rules together, for every upper lag from 40 to 143 and every centre
 module _ (upper : ℕ) (h : 40 ≤ upper) (g : upper ≤ 143) (centre : ℕ) (l : PitchLag) where
-  -- subframes 1 and 3: from one lag and a third below the start, by thirds up to 85 and −1, by whole lags from 85 to the window's end
+  -- subframes 1 and 3: from one lag less a third below the start, by thirds up to 85 and −1, by whole lags from 85 to the window's end
   pub absolute-round : 3 * absolute-start upper centre ≤ in-thirds l + 1 →
       (in-thirds l ≤ 255) ⊎ ((85 ≤ l .samples) × (l .samples ≤ absolute-start upper centre + 6) × (l .fraction ≡ Zero)) →
       (absolute-lag (absolute-index l) ≡ l) × (absolute-index l ≤ 255)
@@ -103,7 +103,7 @@ module _ (upper : ℕ) (h : 40 ≤ upper) (g : upper ≤ 143) (centre : ℕ) (l 
       within (inl t) = inl t
       within (inr (b, t, e)) = inr (b, omega (arith, window-high 6 3 upper centre (omega arith)), e)
 
-  -- subframes 2 and 4: from one lag and a third below the start to one lag less a third above the end
+  -- subframes 2 and 4: from one lag less a third below the start to one lag less a third above the end
   pub relative-round : 3 * relative-start upper centre ≤ in-thirds l + 1 → in-thirds l ≤ 3 * (relative-start upper centre + 9) + 3 →
       (relative-lag (relative-start upper centre) (relative-index (relative-start upper centre) l) ≡ l)
       × (relative-index (relative-start upper centre) l ≤ 31)

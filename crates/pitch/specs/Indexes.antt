@@ -27,7 +27,7 @@ by-remainder (suc (suc n)) = Zero
 abbrev pub fraction-at : ℕ → Fraction
 fraction-at index = by-remainder (index % 3)
 
--- 'below 197: lag floor((index + 2) / 3) + 19, ..; otherwise lag index − 112, fraction 0'
+-- 'below 197: lag floor((index + 2) / 3) + 19', 'otherwise lag index − 112, fraction 0'
 abbrev pub absolute-lag : ℕ → PitchLag
 absolute-lag index =
     cond (ltb index 197) (record { samples = (index + 2) / 3 + 19; fraction = fraction-at index })

@@ -71,7 +71,7 @@ module _ (t : Bool) (cs : List ℤ) (start span : ℕ) (h : 20 ≤ start) where
   chosen-high =
       let l = best-lag cs start span in rw chosen-thirds (omega (arith, best-lag-in cs start span .1, step-of-in t cs l))
 
--- an absolute lag above 84 is whole
+-- an absolute lag: by thirds up to 85 and −1, or whole from 85 on
 pub chosen-absolute : (cs : List ℤ) (start : ℕ) → 20 ≤ start →
     (in-thirds (chosen true cs start 6) ≤ 255)
     ⊎ ((85 ≤ chosen true cs start 6 .samples) × (chosen true cs start 6 .samples ≤ start + 6) × (chosen true cs start 6 .fraction ≡ Zero))

@@ -37,11 +37,11 @@ step-value cs lag (suc (suc k)) = Interpol-6 cs lag (2 * k)
 unfoldable pub best-lag : List ℤ → ℕ → ℕ → ℕ
 best-lag cs start n = best leZ (at cs) start n
 
--- 'Then fractions −2 to 2, the earlier kept on a tie': the greatest of the steps 0 to n
+-- 01: 'Then fractions −2 to 2, the earlier kept on a tie': the greatest of the steps 0 to n
 unfoldable pub best-step : List ℤ → ℕ → ℕ → ℕ
 best-step cs lag n = best ltZ (step-value cs lag) 0 n
 
--- '−2 becomes +1 with one lag less, 2 becomes −1 with one more'
+-- 01: '−2 becomes +1 with one lag less, 2 becomes −1 with one more'
 abbrev pub settled : ℕ → ℕ → PitchLag
 settled lag zero = record { samples = lag - 1; fraction = PlusThird }
 settled lag (suc zero) = record { samples = lag; fraction = MinusThird }
@@ -49,7 +49,7 @@ settled lag (suc (suc zero)) = record { samples = lag; fraction = Zero }
 settled lag (suc (suc (suc zero))) = record { samples = lag; fraction = PlusThird }
 settled lag (suc (suc (suc (suc k)))) = record { samples = lag + 1; fraction = MinusThird }
 
--- 'except that an absolute lag above 84 keeps fraction 0'
+-- 01: 'except that an absolute lag above 84 keeps fraction 0'
 abbrev pub step-of : Bool → List ℤ → ℕ → ℕ
 step-of absolute cs lag = cond (absolute && ltb 84 lag) 2 (best-step cs lag 4)
 

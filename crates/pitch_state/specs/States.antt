@@ -22,11 +22,11 @@ searcher-numbers s = in-numbers (s .previous) (s .next)
 abbrev pub reader-numbers : Reader → PitchState
 reader-numbers r = in-numbers (r .previous) (r .next)
 
--- 'Fresh searcher and fresh reader: previous lag 40, expecting 1'
+-- 01: 'Fresh searcher and fresh reader: previous lag 40, expecting 1'
 abbrev pub fresh-state : PitchState
 fresh-state = reader-numbers fresh-reader
 
--- the subframe of a number; numbers outside 1 to 4 are refused before
+-- the subframe of a number; numbers outside 1 to 4 are refused before anything uses it
 abbrev pub subframe-of : ℕ → Subframe
 subframe-of zero = Four
 subframe-of (suc zero) = One

@@ -1,5 +1,5 @@
 -- The statement of demand 3 is proved by one invariant, kept by every entry: searcher and reader expect the subframe that is due, and before a subframe two or
--- four that follows an intact place they hold the same lag.
+-- four that follows an intact place they hold the same whole lag.
 use mathlib.Core.Path.{_≡_, refl, sym, ap, _∙_}
 use mathlib.Core.Bool.{Bool, true, false, cond, _||_}
 use mathlib.Core.List.{List, [], _∷_}

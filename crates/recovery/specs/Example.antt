@@ -10,6 +10,7 @@ use Rattle.pitch.specs.declared.PitchLag.{PitchLag}
 use Rattle.recovery.specs.Runs.{Input, Entry, search, reset, stray, Event, at-place, search-refused, made-fresh, strayed, Step, fresh-state, run}
 use Rattle.recovery.specs.Statement.{none, Within-width, Stray, Each}
 
+-- such a search
 abbrev pub silent : ℕ → Input
 silent n =
     record {

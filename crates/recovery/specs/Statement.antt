@@ -54,7 +54,7 @@ Stray m σ made-fresh τ = Unit {0}
 Stray m σ (strayed n i r) τ = (n ≡ due m → ⊥) ⊎ (((n ≡ 2) ⊎ (n ≡ 4)) × (31 < i))
 
 -- a place: the reader answers, and it answers the search's whole lag and fraction where the index is intact and the place is subframe one or three or
--- directly follows an intact one. A refused search hands it nothing, a stray reading is refused, and both change nothing.
+-- directly follows an intact one. A refused search hands it nothing, a stray reading is refused, and both change nothing. A reset makes both fresh.
 abbrev pub Recovers : Last → State → Event → State → Type 0
 Recovers m σ (at-place p) τ =
     (accepts (p .reading) ≡ true) × (Intact p → (one-or-three (p .subframe) ≡ true) ⊎ Follows-intact m → p .reading ≡ values (p .sent .lag))

@@ -27,7 +27,7 @@ pub record Step : Type 0 where
   pub after : Selection
   pub words : List ℤ
 
--- all three as they are lent: the detector as its old words
+-- all three as a step takes them: the detector as its old words
 abbrev pub selection-of : List ℤ → Search → Reader → Selection
 selection-of history searcher reader = record { detector = record { «history_q0» = history }; searcher = searcher; reader = reader }
 
@@ -35,6 +35,7 @@ selection-of history searcher reader = record { detector = record { «history_q0
 abbrev pub told-lent : LentStep → List ℤ → List ℤ → Step
 told-lent r history ws = record { answer = told-answer (r .answer) ws; after = selection-of history (r .searcher) (r .reader); words = ws }
 
+-- an answer, with what stays
 abbrev pub said : Selection → List ℤ → Told Line → Step
 said s ws a = record { answer = a; after = s; words = ws }
 

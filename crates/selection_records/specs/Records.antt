@@ -1,4 +1,4 @@
--- 01, 'Feed and program': what a record of each kind answers, from the stages' own definitions on the words of its body.
+-- 01, 'Feed and program': what a record of each kind but the reset answers, from the stages' own definitions on the words of its body.
 use mathlib.Core.Bool.{cond}
 use mathlib.Core.List.{List, _++_}
 use Prim.Native.Nat.{ℕ}

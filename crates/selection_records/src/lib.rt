@@ -1,4 +1,4 @@
-// What a record of each kind answers, from 01, 'Feed and program': its body's words through the stage, and the answer as a line.
+// What a record of each kind but the reset answers, from 01, 'Feed and program': its body's words through the stage, and the answer as a line.
 // A body that has not the kind's length is no record: `Answer::End`, and nothing changes.
 use codebook_sharpening::SharpeningGain;
 use encoder_filtering::Filtering;

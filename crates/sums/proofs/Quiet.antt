@@ -47,6 +47,7 @@ module _ (x y : ℕ → ℤ) where
       let m = mean (natAbs (x n)) (natAbs (y n)) in
       omega arith
 
+  -- two quiet lists, whose squares sum to less than 2 ^ 31: the clipped sum is the plain one
   pub quiet : (n : ℕ) → squared x n + squared y n < 2 ^ 31 → L-sum (pos 0) (λ k. L-mult (x k) (y k)) n ≡ pos 2 *ℤ plain x y n
   unfolding plain squared L-sum L-add
   quiet zero h = refl
@@ -105,5 +106,6 @@ squares-are xs (suc n) = rw (squares-are xs n)
 pub not-clipped : (a : ℕ) → ltZ (pos (min (2 * a) 2147483647)) (pos 2147483647) ≡ true → a < 2 ^ 30
 not-clipped a e = omega (arith, ltb-true (min (2 * a) 2147483647) 2147483647 e)
 
+-- so of a list whose energy is not clipped
 pub quiet-energy : (xs : List ℤ) (n : ℕ) → ltZ (dot xs xs n) (pos 2147483647) ≡ true → squared (at xs) n < 2 ^ 30
 quiet-energy xs n e = rw (squares-are xs n) at (not-clipped (squares xs n) (rw (energy-is xs n) at e))

@@ -1,4 +1,4 @@
--- One name for an `unfolding` line that computes the definitions of this crate.
+-- One name for an `unfolding` line that computes what stages are defined by.
 use Rattle.fixed.specs.Opens.{fixed-opens}
 use Rattle.sums.specs.Convolutions.{convolution}
 

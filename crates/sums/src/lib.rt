@@ -128,7 +128,7 @@ fn reversed(impulse: &[i16; 40]) -> [i16; 80]
     list
 }
 
-// Half the sum, from which the compiler makes products of eight words at once.
+// Half the sum, doubled at the end: the compiler makes products of eight words at once of it.
 fn plain_sum(input: &[i16; 40], reversed: &[i16; 80], from: usize) -> i32
     requires { ⌜ (from ≤ 40) × (weighed (at (now input)) (λ k. at (now reversed) (from + k)) 40 < 2 ^ 30) ⌝ }
     ensures { λ r. ⌜ r ≡ pos 2 *ℤ plain (at (now (input .entry))) (λ k. at (now (reversed .entry)) (from + k)) 40 ⌝ }

@@ -87,7 +87,7 @@ fn clipped_sum(coefficients: &[i16], excitation: i16, samples: &[i16; 50], place
     sum
 }
 
-// Half the sum, the newest sample last: the other products do not wait for it.
+// Half the sum, doubled at the end; the newest sample last: the other products do not wait for it.
 fn plain_sum(coefficients: &[i16], excitation: i16, samples: &[i16; 50], place: usize) -> i32
     requires { ⌜ (length (now coefficients) ≡ 11) × (10 ≤ place) × (place ≤ 50) × (natAbs (excitation *ℤ at (now coefficients) 0) + weighed (now coefficients) (now samples) place 10 < 2 ^ 30) ⌝ }
     ensures { λ r. ⌜ r ≡ less-past (now (coefficients .entry)) (now (samples .entry)) place (L-mult excitation (at (now (coefficients .entry)) 0)) 10 ⌝ }

@@ -1,10 +1,9 @@
 //! The recorded sample of target filtering: calls with the answers of the published Rust, for the
-//! third replay program. The library's answers are not asked for.
+//! replay program. The library's answers are not asked for.
 //!
-//! A record of `stdin` has 184 bytes: the words of a call in the order of `prepare`, in two bytes
-//! each, high byte first. `stdout` has a title and two lines for each record: `residual` with the
-//! words that `residual` answers of the coefficients and the speech, and `filter` with those that
-//! `prepare` answers, residual, impulse response, target and error.
+//! A record has 184 bytes: the words of a call in the order of `prepare`. Its two lines are
+//! `residual` with the words that `residual` answers of the coefficients and the speech, and
+//! `filter` with those that `prepare` answers, residual, impulse response, target and error.
 
 use super::{
     Call,
@@ -16,22 +15,12 @@ use crate::{
     codec::mr74::encoder_filtering::PreparedSubframe,
     counts::Found,
     feed::bytes,
-    record::{push_line, write_files},
+    record::{Of, Recorded},
 };
-use std::{io, path::Path};
-
-const TITLE: &str = "mr74 replay filtering\n";
 
 /// The records, and the calls that are looked at for those which meet a case.
 const RECORDS: usize = 60;
 const CALLS: u64 = 30_000;
-
-/// Writes the sample and gives its number of records.
-pub fn write(folder: &Path) -> io::Result<usize> {
-    let sample = sample();
-    write_files(folder, &sample.stdin, &sample.stdout)?;
-    Ok(sample.records)
-}
 
 /// The cases that some calls met.
 struct Met {
@@ -107,53 +96,39 @@ impl Met {
     }
 }
 
-/// Some records and the cases that they met.
-struct Sample {
-    stdin: Vec<u8>,
-    stdout: String,
-    records: usize,
-    met: Met,
-}
-
 /// The calls that meet a case which none before them met, then further ones of all sources. No feed
 /// is among them, so that the sample is the same without one.
-fn sample() -> Sample {
-    let mut sample = Sample {
-        stdin: Vec::new(),
-        stdout: TITLE.to_string(),
-        records: 0,
-        met: Met::new(),
-    };
+pub fn sample() -> Recorded {
+    let mut recorded = Recorded::default();
+    let mut met = Met::new();
     for index in 0..CALLS {
         let drawn = Drawn::at(index, &[]);
-        let met = Met::by(&drawn);
-        if !met.is_within(&sample.met) {
-            sample.met.add(&met);
-            sample.record(&drawn.call);
+        let by = Met::by(&drawn);
+        if !by.is_within(&met) {
+            met.add(&by);
+            record(&mut recorded, &drawn.call);
         }
     }
-    sample.met.assert_all();
+    met.assert_all();
     for index in CALLS.. {
-        if sample.records >= RECORDS {
+        if recorded.records >= RECORDS {
             break;
         }
-        sample.record(&Drawn::at(index, &[]).call);
+        record(&mut recorded, &Drawn::at(index, &[]).call);
     }
-    sample
+    recorded
 }
 
-impl Sample {
-    fn record(&mut self, call: &Call) {
-        self.records += 1;
-        self.stdin.extend(bytes(&call.lists().concat()));
-        push_line(&mut self.stdout, "residual", call.residual());
-        let PreparedSubframe {
-            residual_q0,
-            impulse_q12,
-            target_q0,
-            error_q0,
-        } = call.prepare();
-        let words = [residual_q0, impulse_q12, target_q0, error_q0].concat();
-        push_line(&mut self.stdout, "filter", words);
-    }
+fn record(recorded: &mut Recorded, call: &Call) {
+    recorded.begin(Of::Filtering);
+    recorded.stdin.extend(bytes(&call.lists().concat()));
+    recorded.line("residual", call.residual());
+    let PreparedSubframe {
+        residual_q0,
+        impulse_q12,
+        target_q0,
+        error_q0,
+    } = call.prepare();
+    let words = [residual_q0, impulse_q12, target_q0, error_q0].concat();
+    recorded.line("filter", words);
 }

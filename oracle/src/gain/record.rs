@@ -1,11 +1,11 @@
-//! The recorded sample of the gain stage: calls with the answers of the published Rust, for the fifth
+//! The recorded sample of the gain stage: calls with the answers of the published Rust, for the
 //! replay program. The library's answers are not asked for.
 //!
-//! A record of `stdin` starts with a byte each for the number of target words, of adaptive words and
-//! of innovation words; then come the exponent, the fraction, the limit choice in one byte, and those
-//! words. Words have two bytes, high byte first. `stdout` has a title and two lines for each record:
-//! `pitch_gain` with the gain, yy, its exponent, xy and its exponent, and `gain` with the index, the
-//! pitch gain and the correction. Either may be `refused` with the number and its detail.
+//! A record starts with a byte each for the number of target words, of adaptive words and of
+//! innovation words; then come the exponent, the fraction, the limit choice in one byte, and those
+//! words. Its two lines are `pitch_gain` with the gain, yy, its exponent, xy and its exponent, and
+//! `gain` with the index, the pitch gain and the correction. Either may be `refused` with the number
+//! and its detail.
 
 use super::{
     calls::{Call, LISTS, SignedRefusal, checked, checked_pitch},
@@ -19,29 +19,22 @@ use crate::{
     counts::Found,
     feed::bytes,
     inputs::Random,
-    record::{push_line, write_files},
+    record::{Of, Recorded},
     words::{SUBFRAME, uniform},
 };
-use std::{io, path::Path};
 
-const TITLE: &str = "mr74 replay gain\n";
 
 /// The calls that are looked at for those which meet a case or have another row.
 const CALLS: u64 = 60_000;
 
-/// Writes the sample and gives its number of records.
-pub fn write(folder: &Path) -> io::Result<usize> {
-    let mut sample = Sample {
-        stdin: Vec::new(),
-        stdout: TITLE.to_string(),
-        records: 0,
-    };
+/// Calls, and calls that are refused.
+pub fn sample() -> Recorded {
+    let mut sample = Sample(Recorded::default());
     for call in calls() {
         sample.record(call.lists(), call.exponent, call.fraction, call.choice());
     }
     sample.refused();
-    write_files(folder, &sample.stdin, &sample.stdout)?;
-    Ok(sample.records)
+    sample.0
 }
 
 /// The cases that some calls met.
@@ -132,22 +125,19 @@ fn calls() -> Vec<Call> {
     calls
 }
 
-struct Sample {
-    stdin: Vec<u8>,
-    stdout: String,
-    records: usize,
-}
+struct Sample(Recorded);
 
 impl Sample {
     /// A call of lists of any length, with any pair and choice.
     fn record(&mut self, lists: [&[i16]; LISTS], exponent: i16, fraction: u16, choice: u8) {
         let lengths = lists.map(<[i16]>::len);
-        self.records += 1;
-        self.stdin.extend(lengths.map(|length| length as u8));
-        self.stdin.extend(exponent.to_be_bytes());
-        self.stdin.extend(fraction.to_be_bytes());
-        self.stdin.push(choice);
-        self.stdin.extend(bytes(&lists.concat()));
+        self.0.begin(Of::GainRow);
+        let stdin = &mut self.0.stdin;
+        stdin.extend(lengths.map(|length| length as u8));
+        stdin.extend(exponent.to_be_bytes());
+        stdin.extend(fraction.to_be_bytes());
+        stdin.push(choice);
+        stdin.extend(bytes(&lists.concat()));
 
         const LENGTH: &str = "a length that was checked";
         let [target, adaptive, filtered] = lists;
@@ -156,7 +146,7 @@ impl Sample {
                 let [target, adaptive] = [target, adaptive].map(|list| list.try_into());
                 let answer = pitch_gain(target.expect(LENGTH), adaptive.expect(LENGTH));
                 let numbers = [answer.gain_q14].into_iter().chain(answer.correlations);
-                push_line(&mut self.stdout, "pitch_gain", numbers);
+                self.0.line("pitch_gain", numbers);
             }
             Err(refusal) => self.refuse(refusal.into()),
         }
@@ -173,7 +163,7 @@ impl Sample {
                 let index = call.quantize();
                 let [pitch, correction, _] = TABLE[usize::from(index)];
                 let numbers = [index.into(), i32::from(pitch), correction.into()];
-                push_line(&mut self.stdout, "gain", numbers);
+                self.0.line("gain", numbers);
             }
             Err(refusal) => self.refuse(refusal),
         }
@@ -224,6 +214,6 @@ impl Sample {
 
     fn refuse(&mut self, refusal: SignedRefusal) {
         let numbers = [refusal.number.into(), refusal.detail];
-        push_line(&mut self.stdout, "refused", numbers);
+        self.0.line("refused", numbers);
     }
 }

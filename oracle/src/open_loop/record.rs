@@ -1,9 +1,8 @@
 //! The recorded sample of the detector: chains of pushes with the answers of the published Rust, for
-//! the second replay program. The library's answers are not asked for.
+//! the replay program. The library's answers are not asked for.
 //!
-//! A record of `stdin` is one byte, 255 for a reset; else it is the number of words of a push, and
-//! the words follow in two bytes each, high byte first. `stdout` has a title and a line for each
-//! record: `reset`, `open` with the lag, or `refused` with the number and its detail.
+//! A record is one byte, 255 for a reset; else it is the number of words of a push, and the words
+//! follow. Its line is `reset`, `open` with the lag, or `refused` with the number and its detail.
 
 use super::{
     HALF_FRAME, HISTORY,
@@ -15,11 +14,9 @@ use crate::{
     codec::mr74::pitch::open_loop::Detector,
     counts::{Counted, Found},
     feed::bytes,
-    record::write_files,
+    record::{Of, Recorded},
 };
-use std::{io, path::Path};
 
-const TITLE: &str = "mr74 replay open loop\n";
 const RESET: u8 = 255;
 const MOST_WORDS: usize = 254;
 
@@ -31,26 +28,16 @@ const STEPS: usize = 18;
 const REFUSED: [usize; 6] = [0, 1, 79, 81, 160, MOST_WORDS];
 const REFUSED_IN: u64 = 11;
 
-/// Writes the sample and gives its number of records.
-pub fn write(folder: &Path) -> io::Result<usize> {
-    let sample = sample();
-    write_files(folder, &sample.stdin, &sample.stdout)?;
-    Ok(sample.records)
-}
-
 /// Some records and the cases that they met.
 struct Sample {
-    stdin: Vec<u8>,
-    stdout: String,
-    records: usize,
+    recorded: Recorded,
     met: Found<Case>,
 }
 
 /// The chains that meet a case which none before them met, until all are met. No feed is among
 /// them, so that the sample is the same without one.
-fn sample() -> Sample {
+pub fn sample() -> Recorded {
     let mut sample = Sample::new();
-    sample.stdout.push_str(TITLE);
     for index in 0..CHAINS {
         let chain = Sample::of_chain(index);
         if !chain.met.is_within(&sample.met) {
@@ -63,15 +50,13 @@ fn sample() -> Sample {
         let met = lends || case.needs_feed() || sample.met.has(case);
         assert!(met, "no chain for the sample: {text}");
     }
-    sample
+    sample.recorded
 }
 
 impl Sample {
     fn new() -> Self {
         Self {
-            stdin: Vec::new(),
-            stdout: String::new(),
-            records: 0,
+            recorded: Recorded::default(),
             met: Found::new(),
         }
     }
@@ -81,7 +66,7 @@ impl Sample {
         let mut sample = Self::new();
         let mut chain = Chain::at(index, &[]);
         let mut detector = Detector::default();
-        while sample.records < STEPS
+        while sample.recorded.records < STEPS
             && let Some(step) = chain.next(&detector.history_q0)
         {
             match step {
@@ -148,17 +133,16 @@ impl Sample {
     }
 
     fn record(&mut self, first: u8, words: &[i16], answer: &str) {
-        self.records += 1;
-        self.stdin.push(first);
-        self.stdin.extend(bytes(words));
-        self.stdout.push_str(answer);
-        self.stdout.push('\n');
+        let recorded = &mut self.recorded;
+        recorded.begin(Of::HalfFrame);
+        recorded.stdin.push(first);
+        recorded.stdin.extend(bytes(words));
+        recorded.stdout.push_str(answer);
+        recorded.stdout.push('\n');
     }
 
     fn add(&mut self, part: Sample) {
-        self.stdin.extend(part.stdin);
-        self.stdout.push_str(&part.stdout);
-        self.records += part.records;
+        self.recorded.add(part.recorded);
         self.met.add(&part.met);
     }
 }

@@ -1,12 +1,11 @@
 //! The recorded sample of the pulses: readings and searches with the answers of the published Rust,
-//! for the fourth replay program. The library's answers are not asked for.
+//! for the replay program. The library's answers are not asked for.
 //!
-//! A record of `stdin` starts with its kind. 0, a reading: the position word and the sign word. 1,
-//! a search: a byte each with the number of target words and of impulse words, then the lag, the
-//! gain, and those words. Words have two bytes, high byte first. `stdout` has a title and a line for
-//! each record: `read` with the four places and the 40 samples, `pulses` with the position word,
-//! the sign word and the 120 words of innovation, filtered pulses and sharpened impulse response,
-//! or `refused` with the number and its detail.
+//! A record starts with its kind. 0, a reading: the position word and the sign word. 1, a search: a
+//! byte each with the number of target words and of impulse words, then the lag, the gain, and those
+//! words. Its line is `read` with the four places and the 40 samples, `pulses` with the position
+//! word, the sign word and the 120 words of innovation, filtered pulses and sharpened impulse
+//! response, or `refused` with the number and its detail.
 
 use super::{
     SIGN_WORDS,
@@ -19,13 +18,11 @@ use crate::{
     counts::Found,
     feed::bytes,
     inputs::Random,
-    record::{push_line, write_files},
+    record::{Of, Recorded},
     subframes::Refusal,
     words::{SUBFRAME, uniform},
 };
-use std::{io, path::Path};
 
-const TITLE: &str = "mr74 replay pulses\n";
 const READING: u8 = 0;
 const SEARCH: u8 = 1;
 
@@ -33,13 +30,9 @@ const SEARCH: u8 = 1;
 const SEARCHES: usize = 60;
 const CALLS: u64 = 60_000;
 
-/// Writes the sample and gives its number of records.
-pub fn write(folder: &Path) -> io::Result<usize> {
-    let mut sample = Sample {
-        stdin: Vec::new(),
-        stdout: TITLE.to_string(),
-        records: 0,
-    };
+/// Readings, searches, and searches that are refused.
+pub fn sample() -> Recorded {
+    let mut sample = Sample(Recorded::default());
     for reading in readings() {
         sample.read(reading);
     }
@@ -47,8 +40,7 @@ pub fn write(folder: &Path) -> io::Result<usize> {
         sample.search(&call.target, &call.impulse, call.lag, call.gain);
     }
     sample.refused_searches();
-    write_files(folder, &sample.stdin, &sample.stdout)?;
-    Ok(sample.records)
+    sample.0
 }
 
 /// Each Gray number in each track and each sign word, the ends, some others, and refused words.
@@ -176,24 +168,20 @@ fn searches() -> Vec<Call> {
     searches
 }
 
-struct Sample {
-    stdin: Vec<u8>,
-    stdout: String,
-    records: usize,
-}
+struct Sample(Recorded);
 
 impl Sample {
     fn read(&mut self, reading: Reading) {
-        self.records += 1;
-        self.stdin.push(READING);
+        self.0.begin(Of::Pulses);
+        self.0.stdin.push(READING);
         for word in [reading.positions, reading.signs] {
-            self.stdin.extend(word.to_be_bytes());
+            self.0.stdin.extend(word.to_be_bytes());
         }
         match reading.read() {
             Ok(codebook) => {
                 let places = codebook.positions().iter().map(|&place| place as i64);
                 let samples = codebook.samples_q13().iter().map(|&word| word.into());
-                push_line(&mut self.stdout, "read", places.chain(samples));
+                self.0.line("read", places.chain(samples));
             }
             Err(refusal) => self.refused(refusal),
         }
@@ -201,14 +189,13 @@ impl Sample {
 
     /// A search of lists of any length; the lists that are written have the right one.
     fn search(&mut self, target: &[i16], impulse: &[i16], lag: u16, gain: i16) {
-        self.records += 1;
-        self.stdin.push(SEARCH);
-        for list in [target, impulse] {
-            self.stdin.push(list.len() as u8);
-        }
-        self.stdin.extend(lag.to_be_bytes());
-        self.stdin.extend(gain.to_be_bytes());
-        self.stdin.extend(bytes(&[target, impulse].concat()));
+        self.0.begin(Of::Pulses);
+        let stdin = &mut self.0.stdin;
+        stdin.push(SEARCH);
+        stdin.extend([target, impulse].map(|list| list.len() as u8));
+        stdin.extend(lag.to_be_bytes());
+        stdin.extend(gain.to_be_bytes());
+        stdin.extend(bytes(&[target, impulse].concat()));
         let lengths = [target.len(), impulse.len(), SUBFRAME, SUBFRAME, SUBFRAME];
         if let Err(refusal) = checked(lengths, lag) {
             return self.refused(refusal);
@@ -227,7 +214,7 @@ impl Sample {
             answer.sharpened_impulse_q12,
         ];
         let lists = lists.as_flattened().iter().map(|&word| word.into());
-        push_line(&mut self.stdout, "pulses", words.into_iter().chain(lists));
+        self.0.line("pulses", words.into_iter().chain(lists));
     }
 
     /// Lists of wrong lengths, with good and bad lags, and bad lags.
@@ -262,6 +249,6 @@ impl Sample {
 
     fn refused(&mut self, refusal: Refusal) {
         let numbers = [refusal.number.into(), refusal.detail];
-        push_line(&mut self.stdout, "refused", numbers);
+        self.0.line("refused", numbers);
     }
 }

@@ -3,10 +3,10 @@ use Rattle.replay.proofs.main.Statement.{statement}
 use Rattle.replay.proofs.main.Tie as tie
 
 abbrev Inv-loop : tie.InvT-loop
-Inv-loop open₀ turns₀ «open» turns = Unit {0}
+Inv-loop replay₀ remaining₀ replay remaining = Unit {0}
 
 abbrev μ-loop : tie.MeasureT-loop
-μ-loop open₀ turns₀ «open» turns = turns
+μ-loop replay₀ remaining₀ replay remaining = remaining
 
 slice-aggregate-write-all : tie.Need-slice-aggregate-write-all Inv-loop μ-loop
 slice-aggregate-write-all c = search needs
@@ -14,14 +14,17 @@ slice-aggregate-write-all c = search needs
 write-all-requires : tie.Need-write-all-requires Inv-loop μ-loop
 write-all-requires c κs = search needs
 
+fresh-requires : tie.Need-fresh-requires Inv-loop μ-loop
+fresh-requires c κs = search needs
+
 loop-holds : tie.Need-loop-holds Inv-loop μ-loop
 loop-holds c = search needs
 
 step-requires : tie.Need-step-requires Inv-loop μ-loop
 step-requires c κs = search needs
 
-sub-turns : tie.Need-sub-turns Inv-loop μ-loop
-sub-turns c = search needs
+sub-remaining : tie.Need-sub-remaining Inv-loop μ-loop
+sub-remaining c = search needs
 
 loop-less : tie.Need-loop-less Inv-loop μ-loop
 loop-less c = search needs
@@ -43,9 +46,10 @@ main-spec =
     μ-loop
     slice-aggregate-write-all
     write-all-requires
+    fresh-requires
     loop-holds
     step-requires
-    sub-turns
+    sub-remaining
     loop-less
     loop-again
     returns

@@ -2,8 +2,8 @@ use Prim.Native.Nat.{_≤_, _-_}
 use mathlib.Core.Path.{_≡_}
 use lib.ListN.{length}
 use borrow.Author.Needs.{needs}
-use Rattle.replay_print.proofs.print_words.Statement.{statement}
-use Rattle.replay_print.proofs.print_words.Tie as tie
+use Rattle.replay.proofs.records.print_words.Statement.{statement}
+use Rattle.replay.proofs.records.print_words.Tie as tie
 
 abbrev Inv-loop : tie.InvT-loop
 Inv-loop words i₀ i-end i = (i-end ≡ length words) × (i ≤ i-end)
@@ -14,14 +14,17 @@ abbrev μ-loop : tie.MeasureT-loop
 loop-holds : tie.Need-loop-holds Inv-loop μ-loop
 loop-holds c = search needs
 
-mul-print-word : tie.Need-mul-print-word Inv-loop μ-loop
-mul-print-word c = search needs
+mul-long : tie.Need-mul-long Inv-loop μ-loop
+mul-long c = search needs
 
-shared-slice-copy-out-print-word : tie.Need-shared-slice-copy-out-print-word Inv-loop μ-loop
-shared-slice-copy-out-print-word c = search needs
+shared-slice-copy-out-long : tie.Need-shared-slice-copy-out-long Inv-loop μ-loop
+shared-slice-copy-out-long c = search needs
 
-print-word-requires : tie.Need-print-word-requires Inv-loop μ-loop
-print-word-requires c κs = search needs
+long-requires : tie.Need-long-requires Inv-loop μ-loop
+long-requires c κs = search needs
+
+print-long-requires : tie.Need-print-long-requires Inv-loop μ-loop
+print-long-requires c κs = search needs
 
 add-i : tie.Need-add-i Inv-loop μ-loop
 add-i c = search needs
@@ -42,9 +45,10 @@ print-words-spec =
     Inv-loop
     μ-loop
     loop-holds
-    mul-print-word
-    shared-slice-copy-out-print-word
-    print-word-requires
+    mul-long
+    shared-slice-copy-out-long
+    long-requires
+    print-long-requires
     add-i
     loop-less
     loop-again

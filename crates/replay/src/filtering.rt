@@ -1,39 +1,23 @@
-// Replays recorded subframes through target filtering and prints what the library answers. `stdin` and `stdout` are made by `oracle/run record` from the published Rust,
-// so the check that the output equals `stdout` compares the library with it.
+// A subframe through target filtering: 50 words of speech, 11 coefficients, 11 quantised ones, 10 of the error history, 10 of the weighting history.
+use crate::records;
 use encoder_filtering::Filtering;
-use libc::STDIN_FILENO;
 use libc::STDOUT_FILENO;
-
-// A record is 92 words, high byte first: 50 of speech, 11 coefficients, 11 quantised ones, 10 of the error history, 10 of the weighting history.
-const RECORD: usize = 184;
 
 const WORDS: usize = 92;
 
-fn main() {
-    io::write_all(STDOUT_FILENO, b"mr74 replay filtering\n");
-    let mut open = true;
-    let mut turns = u64::MAX;
-    while turns > 0 && open {
-        open = step();
-        turns -= 1;
-    }
-}
-
-fn step() -> bool {
-    let mut bytes = [0u8; RECORD];
-    let got = io::read_full(STDIN_FILENO, &mut bytes);
-    if got < RECORD {
+pub(crate) fn step() -> bool {
+    let list = records::read(WORDS);
+    if !list.whole {
         return false;
     }
-    let mut words = [0i16; WORDS];
-    feed::read_words(&bytes, 0, &mut words);
+    let words = list.words;
     let all: &[i16] = &words;
     print_record(all);
     true
 }
 
 fn print_record(words: &[i16]) {
-    if words.len() != WORDS {
+    if words.len() < WORDS {
         return;
     }
     print_residual(&words[0..50], &words[50..61]);
@@ -51,9 +35,7 @@ fn print_residual(speech: &[i16], coefficients: &[i16]) {
     let answer = encoder_filtering::residual(coefficients, speech, &mut residual);
     io::write_all(STDOUT_FILENO, b"residual");
     match answer {
-        Filtering::Written => {
-            replay_print::print_words(&residual);
-        }
+        Filtering::Written => records::print_words(&residual),
         Filtering::Refused(refusal) => (),
     }
     io::write_all(STDOUT_FILENO, b"\n");
@@ -84,10 +66,10 @@ fn print_filter(
     io::write_all(STDOUT_FILENO, b"filter");
     match answer {
         Filtering::Written => {
-            replay_print::print_words(&residual);
-            replay_print::print_words(&impulse);
-            replay_print::print_words(&target);
-            replay_print::print_words(&error);
+            records::print_words(&residual);
+            records::print_words(&impulse);
+            records::print_words(&target);
+            records::print_words(&error);
         }
         Filtering::Refused(refusal) => (),
     }

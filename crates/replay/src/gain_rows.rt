@@ -1,29 +1,13 @@
-// Replays recorded calls through the pitch gain and the choice of the gain row, and prints what the library answers. `stdin` and `stdout` are made by `oracle/run record` from
-// the published Rust, so the check that the output equals `stdout` compares the library with it.
+// The pitch gain and the gain row: the numbers of target, adaptive and innovation words, exponent, fraction, limit choice, and these words.
+use crate::records;
 use gain::Quantized;
 use gain::QuantizedGain;
 use gain_pitch::FoundGain;
 use gain_pitch::PitchGain;
 use libc::STDIN_FILENO;
 use libc::STDOUT_FILENO;
-ghost use mathlib.Core.Path.{_≡_};
-ghost use lib.ListN.{length};
 
-// The most words that a list of a record has.
-const WORDS: usize = 63;
-
-fn main() {
-    io::write_all(STDOUT_FILENO, b"mr74 replay gain\n");
-    let mut open = true;
-    let mut turns = u64::MAX;
-    while turns > 0 && open {
-        open = step();
-        turns -= 1;
-    }
-}
-
-// A record: the numbers of its target, adaptive and innovation words, exponent, fraction, limit choice, and these words. High bytes first.
-fn step() -> bool {
+pub(crate) fn step() -> bool {
     let mut head = [0u8; 8];
     let got = io::read_full(STDIN_FILENO, &mut head);
     if got < 8 {
@@ -34,7 +18,7 @@ fn step() -> bool {
         head[1],
         head[2],
         fixed::word(head[3], head[4]),
-        unsigned(head[5], head[6]),
+        records::unsigned(head[5], head[6]),
         head[7],
     )
 }
@@ -50,23 +34,12 @@ fn replayed(
     let targets = target_words as usize;
     let adaptives = adaptive_words as usize;
     let innovations = innovation_words as usize;
-    if WORDS < targets {
+    let list = records::read(targets + adaptives + innovations);
+    if !list.whole {
         return false;
     }
-    if WORDS < adaptives {
-        return false;
-    }
-    if WORDS < innovations {
-        return false;
-    }
-    let words = targets + adaptives + innovations;
-    let mut bytes = [0u8; 378];
-    let got = io::read_full(STDIN_FILENO, &mut bytes[..2 * words]);
-    if got < 2 * words {
-        return false;
-    }
-    let samples = words_of(&bytes);
-    let all: &[i16] = &samples;
+    let words = list.words;
+    let all: &[i16] = &words;
     print_answers(
         all,
         targets,
@@ -79,14 +52,6 @@ fn replayed(
     true
 }
 
-fn words_of(bytes: &[u8; 378]) -> [i16; 189]
-    ensures { λ r. ⌜ 189 ≡ length r ⌝ }
-{
-    let mut words = [0i16; 189];
-    feed::read_words(bytes, 0, &mut words);
-    words
-}
-
 fn print_answers(
     words: &[i16],
     targets: usize,
@@ -96,22 +61,19 @@ fn print_answers(
     fraction: u16,
     limit: u8,
 ) {
-    if WORDS < targets {
+    if words.len() < targets {
         return;
     }
-    if WORDS < adaptives {
-        return;
-    }
-    if WORDS < innovations {
-        return;
-    }
-    if words.len() < targets + adaptives + innovations {
+    if words.len() - targets < adaptives {
         return;
     }
     let before = targets + adaptives;
-    print_pitch_gain(&words[..targets], &words[targets..before]);
+    if words.len() - before < innovations {
+        return;
+    }
+    print_pitch_gain(&words[0..targets], &words[targets..before]);
     print_quantized(
-        &words[..targets],
+        &words[0..targets],
         &words[targets..before],
         &words[before..before + innovations],
         exponent,
@@ -123,9 +85,7 @@ fn print_answers(
 fn print_pitch_gain(target: &[i16], adaptive: &[i16]) {
     match gain_pitch::pitch_gain(target, adaptive) {
         FoundGain::Gain(found) => print_gain(found),
-        FoundGain::Refused(refusal) => {
-            replay_print::print_refused(refusal);
-        }
+        FoundGain::Refused(refusal) => records::print_refused(refusal),
     }
     io::write_all(STDOUT_FILENO, b"\n");
 }
@@ -140,15 +100,9 @@ fn print_quantized(
 ) {
     match gain::quantize(target, adaptive, innovation, exponent, fraction, limit) {
         Quantized::Row(quantized) => print_row(quantized),
-        Quantized::Refused(refusal) => {
-            replay_print::print_refused(refusal);
-        }
+        Quantized::Refused(refusal) => records::print_refused(refusal),
     }
     io::write_all(STDOUT_FILENO, b"\n");
-}
-
-fn unsigned(high: u8, low: u8) -> u16 {
-    high as u16 * 256 + low as u16
 }
 
 fn print_gain(found: PitchGain) {
@@ -160,13 +114,13 @@ fn print_gain(found: PitchGain) {
         found.xy,
         found.xy_exponent,
     ];
-    replay_print::print_words(&numbers);
+    records::print_words(&numbers);
 }
 
 fn print_row(quantized: QuantizedGain) {
-    io::write_all(STDOUT_FILENO, b"gain ");
-    io::print_decimal(STDOUT_FILENO, quantized.index as u64);
+    io::write_all(STDOUT_FILENO, b"gain");
+    records::print_natural(quantized.index as u64);
     let row = quantized.row;
     let numbers = [row.pitch_q14, row.correction_q12];
-    replay_print::print_words(&numbers);
+    records::print_words(&numbers);
 }

@@ -1,8 +1,8 @@
 use mir.Syntax.{w32, w64}
 use mir.Facts.{toZ-ofZ}
 use Rattle.fixed.proofs.Bounds.{signed, fits-32-64, product-fits}
-use Rattle.replay.proofs.wide_product.Statement.{statement}
-use Rattle.replay.proofs.wide_product.Tie as tie
+use Rattle.replay.proofs.operators.wide_product.Statement.{statement}
+use Rattle.replay.proofs.operators.wide_product.Tie as tie
 
 cast-result : tie.Need-cast-result
 cast-result c = search signed

@@ -1,6 +1,6 @@
 use Rattle.fixed.proofs.Bounds.{signed}
-use Rattle.replay.proofs.long.Statement.{statement}
-use Rattle.replay.proofs.long.Tie as tie
+use Rattle.replay.proofs.records.long.Statement.{statement}
+use Rattle.replay.proofs.records.long.Tie as tie
 
 cast-result : tie.Need-cast-result
 cast-result c = search signed
