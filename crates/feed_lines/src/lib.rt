@@ -291,24 +291,35 @@ fn record(
     output: &mut [u8; 65536],
 ) -> State {
     let step = selection::step_lent(state.searcher, state.reader, history, words, feed, state.at);
-    let searcher = step.searcher;
-    let reader = step.reader;
     let answer = step.answer;
-    let number = std::num::wrapping_add_u64(state.number, 1);
+    let next = advanced(state, step.searcher, step.reader, goes_on(answer), end);
     let line = line_start(output, state.filled);
-    let filled = put_line(output, line.filled, number, answer, words);
-    let goes_on = goes_on(answer);
-    State {
-        searcher,
-        reader,
-        number,
-        start: state.start,
-        at: if goes_on { end } else { state.at },
-        have: state.have,
-        filled: if line.written { filled } else { LOST },
-        last: state.last,
-        open: goes_on && line.written,
+    let filled = put_line(output, line.filled, next.number, answer, words);
+    lined(next, line.written, filled)
+}
+
+// The state behind a record, or at one after which it stops.
+fn advanced(state: State, searcher: Search, reader: Reader, goes_on: bool, end: usize) -> State {
+    let mut next = state;
+    next.searcher = searcher;
+    next.reader = reader;
+    next.number = std::num::wrapping_add_u64(state.number, 1);
+    next.open = goes_on;
+    if goes_on {
+        next.at = end;
     }
+    next
+}
+
+// With a line that waits to be written, where those before it were not lost.
+fn lined(state: State, written: bool, filled: usize) -> State {
+    let mut next = state;
+    next.filled = filled;
+    if !written {
+        next.filled = LOST;
+        next.open = false;
+    }
+    next
 }
 
 // 'After refusals 9 and 10 it stops.'

@@ -23,7 +23,6 @@ use crate::{
     words::{SUBFRAME, uniform},
 };
 
-
 /// The calls that are looked at for those which meet a case or have another row.
 const CALLS: u64 = 60_000;
 
