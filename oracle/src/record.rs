@@ -1,7 +1,7 @@
 //! The recorded sample: inputs of the operators and of the stages with the answers of the published
 //! Rust, for the replay program. The library's answers are not asked for.
 //!
-//! A record of `stdin` is a byte that tells what it is of, and what the operator or the stage needs,
+//! A record of `stdin` is a byte for its kind, and what the operator or the stage needs,
 //! high bytes first. `stdout` has a title and a line or two for each record.
 //!
 //! An operator's record is its number, three arguments of 4 bytes, 0 where the operator has no such
@@ -35,9 +35,9 @@ const ENDS: usize = 35;
 /// Random points that are given for an operator whose answers are otherwise mostly alike.
 const POINTS: usize = 30;
 
-/// What a record is of.
+/// What a record is of: the byte that it starts with.
 #[derive(Clone, Copy)]
-pub enum Of {
+pub enum Kind {
     Operator = 0,
     HalfFrame = 1,
     Filtering = 2,
@@ -54,9 +54,9 @@ pub struct Recorded {
 }
 
 impl Recorded {
-    pub fn begin(&mut self, of: Of) {
+    pub fn begin(&mut self, kind: Kind) {
         self.records += 1;
-        self.stdin.push(of as u8);
+        self.stdin.push(kind as u8);
     }
 
     /// Adds a line with a name and numbers.
@@ -129,7 +129,7 @@ impl Sample {
 
     fn record(&mut self, number: u8, name: &str, arguments: &[i64], answer: &str) {
         let recorded = &mut self.recorded;
-        recorded.begin(Of::Operator);
+        recorded.begin(Kind::Operator);
         recorded.stdin.push(number);
         for place in 0..ARGUMENTS {
             let argument = arguments.get(place).copied().unwrap_or(0);

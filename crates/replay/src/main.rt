@@ -27,17 +27,17 @@ fn main() {
     }
 }
 
-// A record: a byte that names its file, and what is read there. High bytes first.
+// A record: a byte for its kind, and what the kind's file reads. High bytes first.
 fn step(detector: Detector) -> Replay {
-    let mut of = [0u8; 1];
-    let got = io::read_full(STDIN_FILENO, &mut of);
+    let mut kind = [0u8; 1];
+    let got = io::read_full(STDIN_FILENO, &mut kind);
     if got < 1 {
         return Replay {
             open: false,
             detector,
         };
     }
-    match of[0] {
+    match kind[0] {
         0 => Replay {
             open: operators::step(),
             detector,

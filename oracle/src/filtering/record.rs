@@ -15,7 +15,7 @@ use crate::{
     codec::mr74::encoder_filtering::PreparedSubframe,
     counts::Found,
     feed::bytes,
-    record::{Of, Recorded},
+    record::{Kind, Recorded},
 };
 
 /// The records, and the calls that are looked at for those which meet a case.
@@ -120,7 +120,7 @@ pub fn sample() -> Recorded {
 }
 
 fn record(recorded: &mut Recorded, call: &Call) {
-    recorded.begin(Of::Filtering);
+    recorded.begin(Kind::Filtering);
     recorded.stdin.extend(bytes(&call.lists().concat()));
     recorded.line("residual", call.residual());
     let PreparedSubframe {

@@ -19,7 +19,7 @@ use crate::{
     counts::Found,
     feed::bytes,
     inputs::Random,
-    record::{Of, Recorded},
+    record::{Kind, Recorded},
     words::{SUBFRAME, uniform},
 };
 
@@ -130,7 +130,7 @@ impl Sample {
     /// A call of lists of any length, with any pair and choice.
     fn record(&mut self, lists: [&[i16]; LISTS], exponent: i16, fraction: u16, choice: u8) {
         let lengths = lists.map(<[i16]>::len);
-        self.0.begin(Of::GainRow);
+        self.0.begin(Kind::GainRow);
         let stdin = &mut self.0.stdin;
         stdin.extend(lengths.map(|length| length as u8));
         stdin.extend(exponent.to_be_bytes());

@@ -14,7 +14,7 @@ use crate::{
     codec::mr74::pitch::open_loop::Detector,
     counts::{Counted, Found},
     feed::bytes,
-    record::{Of, Recorded},
+    record::{Kind, Recorded},
 };
 
 const RESET: u8 = 255;
@@ -134,7 +134,7 @@ impl Sample {
 
     fn record(&mut self, first: u8, words: &[i16], answer: &str) {
         let recorded = &mut self.recorded;
-        recorded.begin(Of::HalfFrame);
+        recorded.begin(Kind::HalfFrame);
         recorded.stdin.push(first);
         recorded.stdin.extend(bytes(words));
         recorded.stdout.push_str(answer);

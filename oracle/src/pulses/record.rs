@@ -18,7 +18,7 @@ use crate::{
     counts::Found,
     feed::bytes,
     inputs::Random,
-    record::{Of, Recorded},
+    record::{Kind, Recorded},
     subframes::Refusal,
     words::{SUBFRAME, uniform},
 };
@@ -172,7 +172,7 @@ struct Sample(Recorded);
 
 impl Sample {
     fn read(&mut self, reading: Reading) {
-        self.0.begin(Of::Pulses);
+        self.0.begin(Kind::Pulses);
         self.0.stdin.push(READING);
         for word in [reading.positions, reading.signs] {
             self.0.stdin.extend(word.to_be_bytes());
@@ -189,7 +189,7 @@ impl Sample {
 
     /// A search of lists of any length; the lists that are written have the right one.
     fn search(&mut self, target: &[i16], impulse: &[i16], lag: u16, gain: i16) {
-        self.0.begin(Of::Pulses);
+        self.0.begin(Kind::Pulses);
         let stdin = &mut self.0.stdin;
         stdin.push(SEARCH);
         stdin.extend([target, impulse].map(|list| list.len() as u8));
