@@ -1,5 +1,6 @@
-//! The recorded sample: inputs of the operators and of the stages with the answers of the published
-//! Rust, for the replay program. The library's answers are not asked for.
+//! The recorded sample: inputs of the operators, of the pulses and of the gain row with the answers of
+//! the published Rust, for the replay program. The library's answers are not asked for. Half frames
+//! and filtered subframes are records of a feed (`selection::record`).
 //!
 //! A record of `stdin` is a byte for its kind, and what the operator or the stage needs,
 //! high bytes first. `stdout` has a title and a line or two for each record.
@@ -13,9 +14,8 @@ use crate::{
         gain::{self, quantization},
         logarithm, pitch,
     },
-    filtering,
     inputs::{Argument, Random},
-    open_loop, published, pulses,
+    published, pulses,
 };
 use std::{
     fmt::{Display, Write},
@@ -39,10 +39,8 @@ const POINTS: usize = 30;
 #[derive(Clone, Copy)]
 pub enum Kind {
     Operator = 0,
-    HalfFrame = 1,
-    Filtering = 2,
-    Pulses = 3,
-    GainRow = 4,
+    Pulses = 1,
+    GainRow = 2,
 }
 
 /// Records and what is printed for them.
@@ -78,8 +76,6 @@ pub fn write(folder: &Path) -> io::Result<usize> {
         ..Recorded::default()
     };
     all.add(sample());
-    all.add(open_loop::record::sample());
-    all.add(filtering::record::sample());
     all.add(pulses::record::sample());
     all.add(crate::gain::record::sample());
     write_files(folder, &all.stdin, &all.stdout)?;

@@ -2,7 +2,7 @@
 //! compared with the program `select`.
 
 mod answers;
-mod bodies;
+pub mod bodies;
 mod compare;
 mod drawn;
 mod encoder;

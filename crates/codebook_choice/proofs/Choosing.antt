@@ -8,9 +8,10 @@ use lib.IntN.{ℤ}
 use Rattle.fixed.proofs.Bounds.{either}
 use Rattle.codebook_target.specs.Starts.{may-start}
 use Rattle.codebook_target.proofs.Starting.{Of-track}
-use Rattle.codebook_choice.specs.declared.Step.{Step}
-use Rattle.codebook_choice.specs.declared.Trial.{Trial}
-use Rattle.codebook_choice.specs.Choices.{step-to, exceeds, better, none-in, best-step, second-at, third-at, fourth-at, of-steps, last-step, last-steps, trial-from, kept, started, permutation, permutations, search-4i40}
+use Rattle.codebook_steps.specs.declared.Step.{Step}
+use Rattle.codebook_steps.specs.declared.Trial.{Trial}
+use Rattle.codebook_steps.specs.Steps.{step-to, exceeds, better, none-in, kept}
+use Rattle.codebook_choice.specs.Choices.{best-step, second-at, third-at, fourth-at, of-steps, last-step, last-steps, trial-from, started, permutation, permutations, search-4i40}
 
 -- the best place of a track is one of it
 pub best-in : (f : ℕ → Step) (track n : ℕ) → ((p : ℕ) → f p .place ≡ p) → track < 5 → n ≤ 8 → Of-track track (best-step f track n .place)

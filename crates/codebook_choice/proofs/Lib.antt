@@ -2,7 +2,6 @@
 pub mod Choosing
 pub mod Units
 pub mod Energies
-pub mod Comparing
 pub mod Tracks
 pub mod Starting
 pub mod Trials

@@ -11,7 +11,7 @@ use borrow.Author.Count.{below-more}
 use Rattle.fixed.specs.Lists.{tabulate}
 use Rattle.fixed.proofs.Lists.{filled-all}
 use Rattle.codebook_target.specs.Starts.{may-start}
-use Rattle.codebook_choice.specs.declared.Step.{Step}
+use Rattle.codebook_steps.specs.declared.Step.{Step}
 
 -- what a list of steps holds past its end
 abbrev pub zero-step : Step

@@ -10,8 +10,9 @@ use borrow.Author.Tests.{ne-eqb}
 use Rattle.fixed.specs.Operators.{add, mult}
 use Rattle.fixed.specs.Lists.{at, tabulate}
 use Rattle.fixed.proofs.Lists.{at-tabulate}
-use Rattle.codebook_choice.specs.declared.Step.{Step}
-use Rattle.codebook_choice.specs.Choices.{exceeds, better, none-in, best-step}
+use Rattle.codebook_steps.specs.declared.Step.{Step}
+use Rattle.codebook_steps.specs.Steps.{exceeds, better, none-in}
+use Rattle.codebook_choice.specs.Choices.{best-step}
 
 -- only the steps at a track's places count
 pub best-same : (f g : ℕ → Step) (track n : ℕ) → ((k : ℕ) → k < n → f (track + 5 * k) ≡ g (track + 5 * k)) → best-step f track n ≡ best-step g track n

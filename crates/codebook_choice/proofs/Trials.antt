@@ -10,9 +10,10 @@ use Rattle.fixed.specs.Lists.{tabulate}
 use Rattle.fixed.proofs.Bounds.{either}
 use Rattle.fixed.proofs.Lists.{at-tabulate}
 use Rattle.codebook_target.specs.Starts.{may-start}
-use Rattle.codebook_choice.specs.declared.Step.{Step}
-use Rattle.codebook_choice.specs.declared.Trial.{Trial}
-use Rattle.codebook_choice.specs.Choices.{none-in, best-step, second-at, third-at, last-step, last-steps, trial-from, kept, started}
+use Rattle.codebook_steps.specs.declared.Step.{Step}
+use Rattle.codebook_steps.specs.declared.Trial.{Trial}
+use Rattle.codebook_steps.specs.Steps.{none-in, kept}
+use Rattle.codebook_choice.specs.Choices.{best-step, second-at, third-at, last-step, last-steps, trial-from, started}
 use Rattle.codebook_choice.proofs.Choosing.{second-lt, third-lt}
 use Rattle.codebook_choice.proofs.Starting.{zero-step}
 

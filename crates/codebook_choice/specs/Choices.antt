@@ -1,31 +1,15 @@
 -- TS 26.073 search_4i40: from each start the other three tracks take their best place in turn.
-use mathlib.Core.Bool.{Bool, cond}
+use mathlib.Core.Bool.{cond}
 use mathlib.Core.List.{List}
 use Prim.Native.Nat.{ℕ, zero, suc, _+_, _*_}
 use lib.IntN.{ℤ, pos, negsuc}
-use lib.Signed.{ltZ}
-use Rattle.fixed.specs.Operators.{add, mult, round, L-mult, L-mac, L-msu, L-deposit-h}
+use Rattle.fixed.specs.Operators.{add, L-mult, L-mac, L-deposit-h}
 use Rattle.fixed.specs.Lists.{at}
 use Rattle.codebook_target.specs.Starts.{may-start}
 use Rattle.codebook_matrix.specs.Matrices.{cell}
-use Rattle.codebook_choice.specs.declared.Step.{Step}
-use Rattle.codebook_choice.specs.declared.Trial.{Trial}
-
--- 'sq1 = mult(ps1, ps1)', 'alp_16 = round(alp1)': a pulse more at a place, the sum with it, the energy with it
-unfoldable pub step-to : ℕ → ℤ → ℤ → Step
-step-to p s e = record { place = p; sum = s; square = mult s s; energy = round e }
-
--- 's = L_mult(alp, sq1)', 's = L_msu(s, sq, alp_16)', 'if (s > 0)': a square over its energy is greater than the one held
-abbrev pub exceeds : ℤ → ℤ → ℤ → ℤ → Bool
-exceeds square energy held-square held-energy = ltZ (pos 0) (L-msu (L-mult held-energy square) held-square energy)
-
--- the step held, or the next where it is greater
-unfoldable pub better : Step → Step → Step
-better held next = cond (exceeds (next .square) (next .energy) (held .square) (held .energy)) next held
-
--- 'sq = -1', 'alp = 1', 'ps = 0', and the track's first place: nothing found yet
-unfoldable pub none-in : ℕ → Step
-none-in track = record { place = track; sum = pos 0; square = negsuc 0; energy = pos 1 }
+use Rattle.codebook_steps.specs.declared.Step.{Step}
+use Rattle.codebook_steps.specs.declared.Trial.{Trial}
+use Rattle.codebook_steps.specs.Steps.{step-to, better, none-in, kept}
 
 -- the best of the first n places of a track
 unfoldable pub best-step : (ℕ → Step) → ℕ → ℕ → Step
@@ -36,10 +20,6 @@ best-step f track (suc n) = better (best-step f track n) (f (track + 5 * n))
 unfoldable pub of-steps : ℕ → Step → Step → Step → Trial
 of-steps p one two three =
     record { first = p; second = one .place; third = two .place; fourth = three .place; square = three .square; energy = three .energy }
-
--- 'psk', 'alpk': the trial held, or the next where it is greater
-unfoldable pub kept : Trial → Trial → Trial
-kept held next = cond (exceeds (next .square) (next .energy) (held .square) (held .energy)) next held
 
 -- the correlations without their signs, and the table
 module _ (cs : List ℤ) (m : List (List ℤ)) where

@@ -1,4 +1,6 @@
 // The choice of four pulses, TS 26.073 search_4i40, from codebook/search.rs.
+use codebook_steps::Step;
+use codebook_steps::Trial;
 ghost use mathlib.Core.Path.{_≡_};
 ghost use mathlib.Core.Bool.{cond};
 ghost use mathlib.Core.List.{[]};
@@ -10,7 +12,8 @@ ghost use Rattle.fixed.specs.Operators.{add, mult, round, L-mult, L-mac, L-depo
 ghost use Rattle.fixed.specs.Lists.{at, tabulate};
 ghost use Rattle.codebook_target.specs.Starts.{may-start};
 ghost use Rattle.codebook_matrix.specs.Matrices.{cell};
-ghost use Rattle.codebook_choice.specs.Choices.{step-to, exceeds, better, none-in, second-at, third-at, fourth-at, best-step, kept, last-step, permutation, permutations, search-4i40};
+ghost use Rattle.codebook_steps.specs.Steps.{none-in, kept};
+ghost use Rattle.codebook_choice.specs.Choices.{second-at, third-at, fourth-at, best-step, last-step, permutation, permutations, search-4i40};
 
 const TRACKS: usize = 5;
 
@@ -19,24 +22,6 @@ const POSITIONS_PER_TRACK: usize = 8;
 const EIGHTH_Q15: i16 = 4096;
 
 const SIXTEENTH_Q15: i16 = 2048;
-
-// A pulse more: the sum of the correlations so far, its square, the energy so far.
-struct Step {
-    place: usize,
-    sum: i16,
-    square: i16,
-    energy: i16,
-}
-
-// Four pulses in the order in which they were chosen.
-pub struct Trial {
-    pub first: usize,
-    pub second: usize,
-    pub third: usize,
-    pub fourth: usize,
-    pub square: i16,
-    pub energy: i16,
-}
 
 // The table comes by value.
 pub fn select(correlation: &[i16; 40], table: [[i16; 40]; 40], left: &[i16; 40]) -> Trial
@@ -112,7 +97,7 @@ fn seconds(
     requires { ⌜ (a < 5) × (b < 5) ⌝ }
     ensures { λ r. ⌜ r ≡ tabulate (λ n. cond (may-start (now (left .entry)) (a + 5 * n)) (best-step (second-at (now (correlation .entry)) (now (table .entry)) (a + 5 * n)) b 8) (none-in b)) 8 ⌝ }
 {
-    let mut steps = [none_in(b); 8];
+    let mut steps = [codebook_steps::none_in(b); 8];
     for n in 0..POSITIONS_PER_TRACK {
         if 0 <= left[a + TRACKS * n] {
             steps[n] = second(correlation, table, a + TRACKS * n, b);
@@ -133,7 +118,7 @@ fn thirds(
     requires { ⌜ (a < 5) × (c < 5) × ((n : ℕ) → n < 8 → getD ones n (record { place = 0; sum = pos 0; square = pos 0; energy = pos 0 }) .place < 40) ⌝ }
     ensures { λ r. ⌜ r ≡ tabulate (λ n. cond (may-start (now (left .entry)) (a + 5 * n)) (best-step (third-at (now (correlation .entry)) (now (table .entry)) (a + 5 * n) (getD ones n (record { place = 0; sum = pos 0; square = pos 0; energy = pos 0 }))) c 8) (none-in c)) 8 ⌝ }
 {
-    let mut steps = [none_in(c); 8];
+    let mut steps = [codebook_steps::none_in(c); 8];
     for n in 0..POSITIONS_PER_TRACK {
         if 0 <= left[a + TRACKS * n] {
             let one = ones[n];
@@ -157,16 +142,7 @@ fn started(
     ensures { λ r. ⌜ r ≡ cond (may-start (now (left .entry)) first) (kept held (last-step (now (correlation .entry)) (now (table .entry)) first one two d)) held ⌝ }
 {
     if 0 <= left[first] {
-        return kept(held, finished(correlation, table, first, one, two, d));
-    }
-    held
-}
-
-fn kept(held: Trial, trial: Trial) -> Trial
-    ensures { λ r. ⌜ r ≡ kept held trial ⌝ }
-{
-    if exceeds(trial.square, trial.energy, held.square, held.energy) {
-        return trial;
+        return codebook_steps::kept(held, finished(correlation, table, first, one, two, d));
     }
     held
 }
@@ -359,14 +335,14 @@ fn best(
     let mut square: i16 = -1;
     let mut energy: i16 = 1;
     for n in 0..POSITIONS_PER_TRACK {
-        if exceeds(squares[n], energies[n], square, energy) {
+        if codebook_steps::exceeds(squares[n], energies[n], square, energy) {
             found = n;
             square = squares[n];
             energy = energies[n];
         }
     }
     if found == POSITIONS_PER_TRACK {
-        return none_in(track);
+        return codebook_steps::none_in(track);
     }
     Step {
         place: track + TRACKS * found,
@@ -387,9 +363,9 @@ fn clipped_fourth(
     requires { ⌜ (first < 40) × (second < 40) × (two .place < 40) × (track < 5) ⌝ }
     ensures { λ r. ⌜ r ≡ best-step (fourth-at (now (correlation .entry)) (now (table .entry)) first second two) track 8 ⌝ }
 {
-    let mut held = none_in(track);
+    let mut held = codebook_steps::none_in(track);
     for n in 0..POSITIONS_PER_TRACK {
-        held = better(
+        held = codebook_steps::better(
             held,
             fourth_at(correlation, table, first, second, two, track + TRACKS * n),
         );
@@ -413,7 +389,7 @@ fn fourth_at(
     let third = fixed::mac(own, cell(table, two.place, place), EIGHTH_Q15);
     let second_too = fixed::mac(third, cell(table, second, place), EIGHTH_Q15);
     let energy = fixed::mac(second_too, cell(table, first, place), EIGHTH_Q15);
-    step_to(place, fixed::add16(two.sum, correlation[place]), energy)
+    codebook_steps::step_to(place, fixed::add16(two.sum, correlation[place]), energy)
 }
 
 fn cell(table: &[[i16; 40]; 40], i: usize, j: usize) -> i16
@@ -421,42 +397,4 @@ fn cell(table: &[[i16; 40]; 40], i: usize, j: usize) -> i16
     ensures { λ r. ⌜ r ≡ cell (now (table .entry)) i j ⌝ }
 {
     table[i][j]
-}
-
-fn step_to(place: usize, sum: i16, energy: i32) -> Step
-    ensures { λ r. ⌜ r ≡ step-to place sum energy ⌝ }
-{
-    Step {
-        place,
-        sum,
-        square: fixed::fractional(sum, sum),
-        energy: fixed::rounded(energy),
-    }
-}
-
-fn none_in(track: usize) -> Step
-    ensures { λ r. ⌜ r ≡ none-in track ⌝ }
-{
-    Step {
-        place: track,
-        sum: 0,
-        square: -1,
-        energy: 1,
-    }
-}
-
-fn better(held: Step, next: Step) -> Step
-    ensures { λ r. ⌜ r ≡ better held next ⌝ }
-{
-    if exceeds(next.square, next.energy, held.square, held.energy) {
-        return next;
-    }
-    held
-}
-
-// Whether a square over its energy is greater than that held: products in place of the quotients.
-fn exceeds(square: i16, energy: i16, held_square: i16, held_energy: i16) -> bool
-    ensures { λ r. ⌜ r ≡ exceeds square energy «held_square» «held_energy» ⌝ }
-{
-    fixed::exact(held_square, energy) < fixed::exact(held_energy, square)
 }

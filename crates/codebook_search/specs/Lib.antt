@@ -1,3 +1,3 @@
--- TS 26.073 build_code and code_4i40_17bits: what the contracts of `codebook_search` cite.
-pub mod Pulses
+-- What the contract of `codebook_search` cites.
 pub mod Opens
+pub mod Pulses

@@ -1,9 +1,7 @@
 -- One name for an `unfolding` line that computes the definitions of this crate.
-use Rattle.codebook.specs.Opens.{codebook-opens}
-use Rattle.codebook_sharpening.specs.Opens.{sharpening-opens}
-use Rattle.codebook_choice.specs.Opens.{choice-opens}
-use Rattle.codebook_search.specs.Pulses.{positions-of, signs-of, through, through-all, in-order, filtered-at, filtered, build-code, chosen, of-correlation, of-impulse, code-4i40-17bits, accepted, pulses}
+use Rattle.codebook_code.specs.Opens.{code-opens}
+use Rattle.codebook_search.specs.Pulses.{accepted, pulses}
 
 unfoldable pub pulse-opens : Unit {0}
-unfolding codebook-opens sharpening-opens choice-opens positions-of signs-of through through-all in-order filtered-at filtered build-code chosen of-correlation of-impulse code-4i40-17bits accepted pulses
+unfolding code-opens accepted pulses
 pulse-opens = tt

@@ -1,15 +1,13 @@
 // The program of 01, 'Feed and program': reads a feed from standard input and prints a line a record, both in blocks of 64 KB. The programs over it differ in their stored feeds alone.
 use feed::Header;
-use gain::QuantizedGain;
 use lag_reader::Reader;
 use libc::STDERR_FILENO;
 use libc::STDIN_FILENO;
 use libc::STDOUT_FILENO;
 use open_loop::Detector;
-use pitch::PitchLag;
 use pitch_search::Search;
 use refusal::Refusal;
-use selection_answers::Answer;
+use selection_answers::Fields;
 ghost use mathlib.Core.Path.{_≡_};
 ghost use Prim.Native.Nat.{_+_, _≤_, _<_};
 ghost use lib.ListN.{length};
@@ -17,6 +15,9 @@ ghost use Rattle.feed_lines.specs.Endings.{Stops};
 
 // A line begins at most here, and so fits the output block: it has at most 20 digits, a name, 160 numbers of at most 22 bytes and its end.
 const LAST_START: usize = 61440;
+
+// The kind whose fields are the words.
+const FILTER: u8 = 5;
 
 // In place of the bytes that wait to be written, where lines were lost: more than the output block has.
 const LOST: usize = 65537;
@@ -292,42 +293,34 @@ fn record(
 ) -> State {
     let step = selection::step_lent(state.searcher, state.reader, history, words, feed, state.at);
     let answer = step.answer;
-    let next = advanced(state, step.searcher, step.reader, goes_on(answer), end);
-    let line = line_start(output, state.filled);
-    let filled = put_line(output, line.filled, next.number, answer, words);
-    lined(next, line.written, filled)
+    let fields = selection_answers::fields_of(answer);
+    let next = advanced(state, step.searcher, step.reader, fields.number, end);
+    lined(next, fields, words, output)
 }
 
-// The state behind a record, or at one after which it stops.
-fn advanced(state: State, searcher: Search, reader: Reader, goes_on: bool, end: usize) -> State {
+// The state behind a record. 'After refusals 9 and 10 it stops', at that record.
+fn advanced(state: State, searcher: Search, reader: Reader, refusal: u8, end: usize) -> State {
     let mut next = state;
     next.searcher = searcher;
     next.reader = reader;
     next.number = std::num::wrapping_add_u64(state.number, 1);
-    next.open = goes_on;
-    if goes_on {
+    next.open = refusal < 9;
+    if refusal < 9 {
         next.at = end;
     }
     next
 }
 
 // With a line that waits to be written, where those before it were not lost.
-fn lined(state: State, written: bool, filled: usize) -> State {
+fn lined(state: State, fields: Fields, words: &[i16; 160], output: &mut [u8; 65536]) -> State {
+    let line = line_start(output, state.filled);
     let mut next = state;
-    next.filled = filled;
-    if !written {
+    next.filled = put_line(output, line.filled, state.number, fields, words);
+    if !line.written {
         next.filled = LOST;
         next.open = false;
     }
     next
-}
-
-// 'After refusals 9 and 10 it stops.'
-fn goes_on(answer: Answer) -> bool {
-    match answer {
-        Answer::Refused(refusal) => refusal.number() < 9,
-        _ => true,
-    }
 }
 
 // Behind the last place where a line may begin, the block is written first.
@@ -391,82 +384,96 @@ fn put_line(
     output: &mut [u8; 65536],
     filled: usize,
     number: u64,
-    answer: Answer,
+    fields: Fields,
     words: &[i16; 160],
 ) -> usize
     requires { ⌜ filled ≤ 61440 ⌝ }
     ensures { λ r. ⌜ r ≤ filled + 3561 ⌝ }
 {
     let numbered = put_decimal(output, filled, number);
-    let answered = put_answer(output, numbered, answer, words);
+    let answered = put_answer(output, numbered, fields, words);
     put(output, answered, b'\n')
 }
 
-fn put_answer(output: &mut [u8; 65536], filled: usize, answer: Answer, words: &[i16; 160]) -> usize
+fn put_answer(output: &mut [u8; 65536], filled: usize, fields: Fields, words: &[i16; 160]) -> usize
     requires { ⌜ filled ≤ 61460 ⌝ }
     ensures { λ r. ⌜ r ≤ filled + 3540 ⌝ }
 {
-    match answer {
-        Answer::End => filled,
-        Answer::Reset => put_text(output, filled, b" reset"),
-        Answer::Open(lag) => {
-            let named = put_text(output, filled, b" open");
-            put_number(output, named, lag as u64)
-        }
-        Answer::Pitch { index, lag, hertz } => {
-            let named = put_text(output, filled, b" pitch");
-            let indexed = put_number(output, named, index as u64);
-            put_lag(output, indexed, lag, hertz)
-        }
-        Answer::Pulses(pulses) => {
-            let named = put_text(output, filled, b" pulses");
-            let positioned = put_number(output, named, pulses.positions as u64);
-            put_number(output, positioned, pulses.signs as u64)
-        }
-        Answer::Gain(gain) => {
-            let named = put_text(output, filled, b" gain");
-            put_gain(output, named, gain)
-        }
-        Answer::Filter => {
-            let named = put_text(output, filled, b" filter");
-            put_words(output, named, words)
-        }
-        Answer::Lag { lag, hertz } => {
-            let named = put_text(output, filled, b" lag");
-            put_lag(output, named, lag, hertz)
-        }
-        Answer::Refused(refusal) => put_refused(output, filled, refusal),
+    if fields.number != 0 {
+        return put_refused(output, filled, fields);
     }
+    let named = put_name(output, filled, fields.line);
+    if fields.line == FILTER {
+        return put_words(output, named, words);
+    }
+    put_fields(output, named, fields)
 }
 
-fn put_lag(output: &mut [u8; 65536], filled: usize, lag: PitchLag, hertz: u16) -> usize
-    requires { ⌜ filled ≤ 65470 ⌝ }
-    ensures { λ r. ⌜ r ≤ filled + 66 ⌝ }
-{
-    let samples = put_number(output, filled, lag.samples as u64);
-    let fraction = lag.fraction;
-    let thirds = put_word(output, samples, fraction.thirds());
-    put_number(output, thirds, hertz as u64)
-}
-
-fn put_gain(output: &mut [u8; 65536], filled: usize, gain: QuantizedGain) -> usize
-    requires { ⌜ filled ≤ 65470 ⌝ }
-    ensures { λ r. ⌜ r ≤ filled + 66 ⌝ }
-{
-    let index = put_number(output, filled, gain.index as u64);
-    let row = gain.row;
-    let pitch = put_word(output, index, row.pitch_q14);
-    put_word(output, pitch, row.correction_q12)
-}
-
-fn put_refused(output: &mut [u8; 65536], filled: usize, refusal: Refusal) -> usize
+fn put_refused(output: &mut [u8; 65536], filled: usize, fields: Fields) -> usize
     requires { ⌜ filled ≤ 65470 ⌝ }
     ensures { λ r. ⌜ r ≤ filled + 52 ⌝ }
 {
     let named = put_text(output, filled, b" refused");
-    let number = put_number(output, named, refusal.number() as u64);
-    let detail = refusal.detail();
-    put_signed(output, number, detail.negative, detail.magnitude)
+    let number = put_number(output, named, fields.number as u64);
+    put_signed(output, number, fields.negative, fields.magnitude)
+}
+
+// By the kind; nothing where the feed ends.
+fn put_name(output: &mut [u8; 65536], filled: usize, line: u8) -> usize
+    requires { ⌜ filled ≤ 65470 ⌝ }
+    ensures { λ r. ⌜ r ≤ filled + 7 ⌝ }
+{
+    match line {
+        0 => put_text(output, filled, b" reset"),
+        1 => put_text(output, filled, b" open"),
+        2 => put_text(output, filled, b" pitch"),
+        3 => put_text(output, filled, b" pulses"),
+        4 => put_text(output, filled, b" gain"),
+        5 => put_text(output, filled, b" filter"),
+        6 => put_text(output, filled, b" lag"),
+        _ => filled,
+    }
+}
+
+// As many as the kind has.
+fn put_fields(output: &mut [u8; 65536], filled: usize, fields: Fields) -> usize
+    requires { ⌜ filled ≤ 65440 ⌝ }
+    ensures { λ r. ⌜ r ≤ filled + 88 ⌝ }
+{
+    let count = field_count(fields.line);
+    if count < 1 {
+        return filled;
+    }
+    let one = put_field(output, filled, fields.first);
+    if count < 2 {
+        return one;
+    }
+    let two = put_field(output, one, fields.second);
+    if count < 3 {
+        return two;
+    }
+    let three = put_field(output, two, fields.third);
+    if count < 4 {
+        return three;
+    }
+    put_field(output, three, fields.fourth)
+}
+
+fn field_count(line: u8) -> u8 {
+    match line {
+        1 => 1,
+        2 => 4,
+        3 => 2,
+        4 | 6 => 3,
+        _ => 0,
+    }
+}
+
+fn put_field(output: &mut [u8; 65536], filled: usize, v: i32) -> usize
+    requires { ⌜ filled ≤ 65514 ⌝ }
+    ensures { λ r. ⌜ r ≤ filled + 22 ⌝ }
+{
+    put_signed(output, filled, v < 0, fixed::unsigned_abs(v) as u64)
 }
 
 fn put_words(output: &mut [u8; 65536], filled: usize, words: &[i16; 160]) -> usize

@@ -1,7 +1,7 @@
 -- The answers of the pulse stage as the structs that cross to Rust and C.
 use Rattle.refusal.specs.Refused.{Told, values, refused, sign-magnitude}
 use Rattle.codebook.specs.declared.Places.{Places}
-use Rattle.codebook_search.specs.declared.PulseWords.{PulseWords}
+use Rattle.codebook_code.specs.declared.PulseWords.{PulseWords}
 use Rattle.mr74.specs.declared.pulses.PulsesAnswer.{PulsesAnswer}
 use Rattle.mr74.specs.declared.pulses.PlacesAnswer.{PlacesAnswer}
 

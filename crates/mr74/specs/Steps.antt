@@ -1,12 +1,11 @@
 -- One step on a feed record, as it crosses to Rust and C.
-use mathlib.Core.Bool.{false, cond, _&&_, _||_}
+use mathlib.Core.Bool.{cond, _&&_, _||_}
 use mathlib.Core.List.{List, [], _∷_}
 use Prim.Native.Nat.{ℕ}
 use lib.Dec.{eqb}
-use lib.IntN.{ℤ, pos}
+use lib.IntN.{ℤ}
 use lib.ListN.{getD}
-use Rattle.fixed.specs.Lists.{at}
-use Rattle.refusal.specs.Refused.{Told, values, refused, sign-magnitude}
+use Rattle.refusal.specs.Refused.{Told, values, refused}
 use Rattle.refusal.specs.Checks.{Check, checked, length-is}
 use Rattle.lag_reader.specs.declared.Reader.{Reader}
 use Rattle.pitch_search.specs.declared.Search.{Search}
@@ -14,33 +13,13 @@ use Rattle.pitch_state.specs.declared.PitchState.{PitchState}
 use Rattle.pitch_state.specs.States.{searcher-numbers, reader-numbers, searcher-of, reader-of}
 use Rattle.pitch_state.specs.Calls.{known-subframes}
 use Rattle.feed.specs.Records.{Standing, nothing, whole, header, body}
-use Rattle.selection_answers.specs.Lines.{Line, none, line}
+use Rattle.selection_answers.specs.declared.Fields.{Fields}
+use Rattle.selection_answers.specs.Fields.{fields-of}
+use Rattle.selection_answers.specs.Lines.{Line}
 use Rattle.selection.specs.Steps.{Step, selection-of, step-lent}
-use Rattle.mr74.specs.declared.steps.Fields.{Fields}
 use Rattle.mr74.specs.declared.steps.StepAnswer.{StepAnswer}
 
--- ---- an answer in numbers: number 0, the kind and four fields, or a refusal's number and detail and zeros
-abbrev pub accepted-line : ℕ → ℤ → ℤ → ℤ → ℤ → Fields
-accepted-line k a b c d = record { number = 0; negative = false; magnitude = 0; line = k; first = a; second = b; third = c; fourth = d }
-
--- the words of `filter` stand apart, and 7 says that the feed ends
-abbrev pub fields-of : Told Line → Fields
-fields-of (values none) = accepted-line 7 (pos 0) (pos 0) (pos 0) (pos 0)
-fields-of (values (line k fs)) =
-    cond (eqb k 5) (accepted-line 5 (pos 0) (pos 0) (pos 0) (pos 0)) (accepted-line k (at fs 0) (at fs 1) (at fs 2) (at fs 3))
-fields-of (refused n d) =
-    record {
-      number = n;
-      negative = sign-magnitude d .negative;
-      magnitude = sign-magnitude d .magnitude;
-      line = 0;
-      first = pos 0;
-      second = pos 0;
-      third = pos 0;
-      fourth = pos 0;
-    }
-
--- with searcher and reader after it
+-- an answer in numbers, with searcher and reader after it
 abbrev pub step-answer : Fields → PitchState → PitchState → StepAnswer
 step-answer f searcher reader =
     record {

@@ -5,15 +5,17 @@ use pitch_state::PitchState;
 use refusal::Refusal;
 use selection::LentStep;
 use selection_answers::Answer;
+use selection_answers::Fields;
 ghost use mathlib.Core.List.{[]};
 ghost use mathlib.Core.Path.{_≡_};
 ghost use Rattle.refusal.specs.Refused.{values, refused, turned-down};
 ghost use Rattle.refusal.specs.Checks.{checked};
 ghost use lib.ListN.{length};
 ghost use Rattle.feed.specs.Records.{body-length, header, body};
+ghost use Rattle.selection_answers.specs.Fields.{fields-of};
 ghost use Rattle.selection_answers.specs.Lines.{told-answer};
 ghost use Rattle.pitch_state.specs.Calls.{told-known};
-ghost use Rattle.mr74.specs.Steps.{subframes-of, subframes-at, accepted-line, fields-of, state-after, step-answer, stepped, step-in-numbers};
+ghost use Rattle.mr74.specs.Steps.{subframes-of, subframes-at, state-after, step-answer, stepped, step-in-numbers};
 
 #[repr(C)]
 pub struct StepAnswer {
@@ -104,7 +106,7 @@ fn stepped(step: LentStep, searcher: PitchState, reader: PitchState) -> StepAnsw
     ensures { λ r. ⌜ r ≡ stepped (told-answer (step .answer) []) (step .searcher) (step .reader) searcher reader ⌝ }
 {
     let answer = step.answer;
-    let fields = fields_of(answer);
+    let fields = selection_answers::fields_of(answer);
     let searched = pitch_state::searcher_numbers(step.searcher);
     let read = pitch_state::reader_numbers(step.reader);
     let searcher_after = state_after(2, fields, searched, searcher);
@@ -115,7 +117,11 @@ fn stepped(step: LentStep, searcher: PitchState, reader: PitchState) -> StepAnsw
 fn refused_step(refusal: Refusal, searcher: PitchState, reader: PitchState) -> StepAnswer
     ensures { λ r. ⌜ r ≡ step-answer (fields-of (turned-down refusal)) searcher reader ⌝ }
 {
-    step_answer(refused_line(refusal), searcher, reader)
+    step_answer(
+        selection_answers::fields_of(Answer::Refused(refusal)),
+        searcher,
+        reader,
+    )
 }
 
 fn state_after(kind: u8, fields: Fields, new: PitchState, given: PitchState) -> PitchState
@@ -151,78 +157,5 @@ fn step_answer(fields: Fields, searcher: PitchState, reader: PitchState) -> Step
         reader_samples: reader.samples,
         reader_fraction: reader.fraction,
         reader_next: reader.next,
-    }
-}
-
-struct Fields {
-    number: u8,
-    negative: bool,
-    magnitude: u64,
-    line: u8,
-    first: i32,
-    second: i32,
-    third: i32,
-    fourth: i32,
-}
-
-fn accepted_line(line: u8, first: i32, second: i32, third: i32, fourth: i32) -> Fields
-    ensures { λ r. ⌜ r ≡ accepted-line line first second third fourth ⌝ }
-{
-    Fields {
-        number: 0,
-        negative: false,
-        magnitude: 0,
-        line,
-        first,
-        second,
-        third,
-        fourth,
-    }
-}
-
-fn fields_of(answer: Answer) -> Fields
-    ensures { λ r. ⌜ r ≡ fields-of (told-answer answer []) ⌝ }
-{
-    match answer {
-        Answer::End => accepted_line(7, 0, 0, 0, 0),
-        Answer::Reset => accepted_line(0, 0, 0, 0, 0),
-        Answer::Open(lag) => accepted_line(1, lag as i32, 0, 0, 0),
-        Answer::Pitch { index, lag, hertz } => {
-            let fraction = lag.fraction;
-            let thirds = fraction.thirds() as i32;
-            accepted_line(2, index as i32, lag.samples as i32, thirds, hertz as i32)
-        }
-        Answer::Pulses(words) => {
-            accepted_line(3, words.positions as i32, words.signs as i32, 0, 0)
-        }
-        Answer::Gain(chosen) => {
-            let row = chosen.row;
-            let pitch = row.pitch_q14 as i32;
-            let correction = row.correction_q12 as i32;
-            accepted_line(4, chosen.index as i32, pitch, correction, 0)
-        }
-        Answer::Filter => accepted_line(5, 0, 0, 0, 0),
-        Answer::Lag { lag, hertz } => {
-            let fraction = lag.fraction;
-            let thirds = fraction.thirds() as i32;
-            accepted_line(6, lag.samples as i32, thirds, hertz as i32, 0)
-        }
-        Answer::Refused(refusal) => refused_line(refusal),
-    }
-}
-
-fn refused_line(refusal: Refusal) -> Fields
-    ensures { λ r. ⌜ r ≡ fields-of (turned-down refusal) ⌝ }
-{
-    let detail = refusal.detail();
-    Fields {
-        number: refusal.number(),
-        negative: detail.negative,
-        magnitude: detail.magnitude,
-        line: 0,
-        first: 0,
-        second: 0,
-        third: 0,
-        fourth: 0,
     }
 }

@@ -1,23 +1,18 @@
 -- TS 26.073 Pitch_fr as 01 has it: one search, what it answers and the searcher after it.
-use mathlib.Core.Bool.{cond}
 use mathlib.Core.List.{List, [], _∷_}
-use Prim.Native.Nat.{ℕ, _+_, _-_}
+use Prim.Native.Nat.{ℕ}
 use lib.IntN.{ℤ}
 use Rattle.refusal.specs.Refused.{Told, values, turned-down}
 use Rattle.refusal.specs.Checks.{Check, Outcome, unless-refused, length-is, known-subframe, open-loop-lag, in-order}
-use Rattle.pitch.specs.declared.Subframe.{Subframe}
-use Rattle.pitch.specs.declared.Subframe.the-variants.{One, Two, Three, Four}
+use Rattle.pitch.specs.declared.Subframe.the-variants.{One}
 use Rattle.pitch.specs.declared.PitchLag.{PitchLag}
-use Rattle.pitch.specs.Kinds.{subframe-number, absolute, following}
-use Rattle.pitch.specs.Windows.{handset, absolute-start, relative-start}
+use Rattle.pitch.specs.Kinds.{subframe-number, following, fresh-lag}
 use Rattle.pitch.specs.Indexes.{index-of}
-use Rattle.pitch.specs.Kinds.{fresh-lag}
+use Rattle.pitch_window.specs.Windows.{start-of, pitch-in}
 use Rattle.pitch_search.specs.declared.SearchedPitch.{SearchedPitch}
 use Rattle.pitch_search.specs.declared.Found.{Found}
 use Rattle.pitch_search.specs.declared.Found.the-variants.{Pitch, Refused}
 use Rattle.pitch_search.specs.declared.Search.{Search}
-use Rattle.pitch_correlation.specs.Correlations.{correlations}
-use Rattle.pitch_choice.specs.Choices.{chosen}
 
 -- 'Fresh searcher and fresh reader: previous lag 40, expecting 1'
 abbrev pub fresh-search : Search
@@ -27,22 +22,6 @@ fresh-search = record { previous = fresh-lag; next = One }
 abbrev pub told : Found → Told SearchedPitch
 told (Pitch p) = values p
 told (Refused r) = turned-down r
-
--- the window's start: 'the centre is the first open-loop lag for subframe 1, the second for 3', the previous whole lag for 2 and 4
-abbrev pub start-of : Subframe → ℕ → ℕ → ℕ → ℕ
-start-of One previous first second = absolute-start handset first
-start-of Two previous first second = relative-start handset previous
-start-of Three previous first second = absolute-start handset second
-start-of Four previous first second = relative-start handset previous
-
--- how many lags a window has, less one
-abbrev pub span-of : Subframe → ℕ
-span-of s = cond (absolute s) 6 9
-
--- the lag and the fraction chosen in a window; the correlations go 4 lags further at each side
-unfoldable pub pitch-in : Subframe → ℕ → List ℤ → List ℤ → List ℤ → PitchLag
-pitch-in s start exc target hs =
-    chosen (absolute s) (correlations exc target hs (start - 4) (start + span-of s + 4 + 1)) start (span-of s)
 
 -- what is answered and kept for a chosen lag
 abbrev pub found-at : Search → ℕ → PitchLag → Outcome SearchedPitch Search

@@ -5,64 +5,13 @@ use pitch::PitchLag;
 use pitch::Subframe;
 use refusal::Refusal;
 ghost use mathlib.Core.Path.{_≡_};
-ghost use Prim.Native.Nat.{_+_, _≤_};
-ghost use lib.ListN.{length};
 ghost use Rattle.refusal.specs.Refused.{values, turned-down};
 ghost use Rattle.pitch.specs.Kinds.{following};
-ghost use Rattle.pitch_search.specs.Searches.{fresh-search, told, start-of, span-of, pitch-in, accepted, Pitch-fr};
+ghost use Rattle.pitch_search.specs.Searches.{fresh-search, told, accepted, Pitch-fr};
 
 const SUBFRAME_SAMPLES: usize = 40;
 
 const EXCITATION_SAMPLES: usize = 194;
-
-const INTERPOLATION_SAMPLES: usize = 4;
-
-const ABSOLUTE_SPAN: u16 = 6;
-
-const RELATIVE_SPAN: u16 = 9;
-
-// The lag and the fraction chosen in a window.
-fn pitch_in(
-    subframe: Subframe,
-    start: u16,
-    excitation: &[i16],
-    target: &[i16],
-    impulse: &[i16],
-) -> PitchLag
-    requires { ⌜ (length (now excitation) ≡ 194) × (length (now target) ≡ 40) × (length (now impulse) ≡ 40) × (20 ≤ start) × (start + span-of subframe ≤ 143) ⌝ }
-    ensures { λ r. ⌜ r ≡ pitch-in subframe start (now (excitation .entry)) (now (target .entry)) (now (impulse .entry)) ⌝ }
-{
-    let span = span(subframe);
-    let first = start as usize;
-    let correlation = pitch_correlation::normalized_correlation(
-        excitation,
-        target,
-        impulse,
-        first - INTERPOLATION_SAMPLES,
-        first + span as usize + INTERPOLATION_SAMPLES + 1,
-    );
-    pitch_choice::choose(subframe.absolute(), &correlation, start, span)
-}
-
-fn span(subframe: Subframe) -> u16
-    ensures { λ r. ⌜ r ≡ span-of subframe ⌝ }
-{
-    if subframe.absolute() {
-        return ABSOLUTE_SPAN;
-    }
-    RELATIVE_SPAN
-}
-
-fn window_start(subframe: Subframe, previous: u16, first: u16, second: u16) -> u16
-    ensures { λ r. ⌜ r ≡ start-of subframe previous first second ⌝ }
-{
-    match subframe {
-        Subframe::One => pitch::absolute_start(first),
-        Subframe::Two => pitch::relative_start(previous),
-        Subframe::Three => pitch::absolute_start(second),
-        Subframe::Four => pitch::relative_start(previous),
-    }
-}
 
 pub struct SearchedPitch {
     pub lag: PitchLag,
@@ -159,16 +108,23 @@ impl Search {
         first: u16,
         second: u16,
     ) -> SearchStep
-        requires { ⌜ (length (now excitation) ≡ 194) × (length (now target) ≡ 40) × (length (now impulse) ≡ 40) ⌝ }
         ensures { λ r. ⌜ (told (r .found) ≡ accepted self (now (excitation .entry)) (now (target .entry)) (now (impulse .entry)) first second .answer)
             × (r .searcher ≡ accepted self (now (excitation .entry)) (now (target .entry)) (now (impulse .entry)) first second .after) ⌝ }
     {
-        let next = self.next;
+        let due = self.next;
         let previous = self.previous.samples;
-        let start = window_start(next, previous, first, second);
-        let lag = pitch_in(next, start, excitation, target, impulse);
-        let index = lag.index(next, start) as u8;
-        self.sent(PitchLag::decoded(next, index, previous), index)
+        let start = pitch_window::window_start(due, previous, first, second);
+        let lag = pitch_window::chosen_lag(
+            due,
+            previous,
+            first,
+            second,
+            excitation,
+            target,
+            impulse,
+        );
+        let index = lag.index(due, start) as u8;
+        self.sent(PitchLag::decoded(due, index, previous), index)
     }
 
     fn sent(self, lag: PitchLag, index: u8) -> SearchStep

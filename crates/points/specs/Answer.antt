@@ -14,7 +14,7 @@ use Rattle.open_loop.specs.Detectors.{fresh-detector, Pitch-ol}
 use Rattle.pitch_search.specs.declared.Search.{Search}
 use Rattle.pitch_search.specs.Searches.{fresh-search, Pitch-fr}
 use Rattle.refusal.specs.Checks.{Outcome}
-use Rattle.codebook_search.specs.declared.PulseWords.{PulseWords}
+use Rattle.codebook_code.specs.declared.PulseWords.{PulseWords}
 use Rattle.codebook_search.specs.Pulses.{Lists, lent, pulses}
 use Rattle.gain_pitch.specs.Gains.{pitch-gain}
 use Rattle.gain.specs.Rows.{quantize}

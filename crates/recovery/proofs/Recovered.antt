@@ -23,7 +23,7 @@ use Rattle.lag_reader.specs.Readers.{relative-index-fits, read}
 use Rattle.pitch_search.specs.declared.Search.{Search}
 use Rattle.pitch_search.specs.declared.SearchedPitch.{SearchedPitch}
 use Rattle.pitch_search.specs.Searches.{accepted, search-checks, Pitch-fr}
-use Rattle.pitch_search.proofs.Sendings.{sent-back}
+use Rattle.pitch_window.proofs.Sendings.{sent-back}
 use Rattle.recovery.specs.Runs.{Input, Entry, search, reset, stray, State, fresh-state, Event, Step, answered, searched, step, run}
 use Rattle.recovery.specs.Statement.{Last, none, last, last-after, due, one-or-three, Follows-intact, Within-width, Stray, Recovers, Each, Recovery}
 

@@ -3,6 +3,7 @@ use crate::records;
 use libc::STDIN_FILENO;
 use libc::STDOUT_FILENO;
 use logarithm::Power;
+ghost use Prim.Native.Nat.{_≤_};
 
 const RECORD: usize = 14;
 
@@ -13,9 +14,9 @@ pub(crate) fn step() -> bool {
         return false;
     }
     let operator = buf[0];
-    let a = long_of(buf[1], buf[2], buf[3], buf[4]);
-    let b = long_of(buf[5], buf[6], buf[7], buf[8]);
-    let c = long_of(buf[9], buf[10], buf[11], buf[12]);
+    let a = long_at(&buf, 1);
+    let b = long_at(&buf, 5);
+    let c = long_at(&buf, 9);
     print_name(buf[13]);
     print_arguments(operator, a, b, c);
     match operator {
@@ -43,9 +44,12 @@ fn print_letters(name: &[u8; 255], letters: usize) {
     }
 }
 
-fn long_of(b3: u8, b2: u8, b1: u8, b0: u8) -> i32 {
-    let high = fixed::word(b3, b2);
-    fixed::add32(fixed::deposit_high(high), records::unsigned(b1, b0) as i32)
+fn long_at(record: &[u8; 14], from: usize) -> i32
+    requires { ⌜ from ≤ 10 ⌝ }
+{
+    let high = fixed::word(record[from], record[from + 1]);
+    let low = records::unsigned(record[from + 2], record[from + 3]);
+    fixed::add32(fixed::deposit_high(high), low as i32)
 }
 
 fn wide_product(a: i32, b: i32) -> i64 {

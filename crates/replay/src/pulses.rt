@@ -2,7 +2,7 @@
 use crate::records;
 use codebook::Places;
 use codebook::PulseReading;
-use codebook_search::PulseWords;
+use codebook_code::PulseWords;
 use codebook_search::Pulses;
 use codebook_sharpening::SharpeningGain;
 use libc::STDIN_FILENO;

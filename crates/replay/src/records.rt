@@ -1,17 +1,10 @@
 // What is read of every record, and printed of its answer.
 use libc::STDIN_FILENO;
 use libc::STDOUT_FILENO;
-use open_loop::Detector;
 use refusal::Refusal;
 
 // The most words that a record has.
 const WORDS: usize = 255;
-
-// Whether a record may follow, and the detector after the last one.
-pub(crate) struct Replay {
-    pub(crate) open: bool,
-    pub(crate) detector: Detector,
-}
 
 // The words of a record, zeros behind them; not whole where the input has fewer, or a record can't have so many.
 pub(crate) struct List {

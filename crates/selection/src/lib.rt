@@ -3,8 +3,10 @@ use feed::Header;
 use lag_reader::Reader;
 use pitch_search::Search;
 use selection_answers::Answer;
+ghost use mathlib.Core.List.{List};
 ghost use mathlib.Core.Path.{_≡_};
 ghost use Prim.Native.Nat.{_≤_};
+ghost use lib.IntN.{ℤ};
 ghost use Rattle.selection.specs.Steps.{selection-of, told-lent, of-kind, step-lent};
 
 pub struct LentStep {
@@ -46,7 +48,7 @@ pub fn step_lent(
     }
 }
 
-// By the kind.
+// By the kind: a reset, a half frame and a filtering record write what is lent.
 fn taken(
     searcher: Search,
     reader: Reader,
@@ -72,6 +74,21 @@ fn taken(
             searcher,
             reader,
         },
+        5 => LentStep {
+            answer: selection_records::filtering_record(words, body),
+            searcher,
+            reader,
+        },
+        _ => answered(searcher, reader, kind, body),
+    }
+}
+
+// The kinds that write nothing.
+fn answered(searcher: Search, reader: Reader, kind: u8, body: &[u8]) -> LentStep
+    requires { ⌜ (2 ≤ kind) × (kind ≤ 6) × (kind ≡ 5 → ⊥) ⌝ }
+    ensures { λ r. ⌜ ((history ws : List ℤ) → told-lent r history ws ≡ of-kind (selection-of history searcher reader) ws kind (now (body .entry))) ⌝ }
+{
+    match kind {
         2 => {
             let step = selection_records::pitch_record(searcher, body);
             let answer = step.answer;
@@ -89,11 +106,6 @@ fn taken(
         },
         4 => LentStep {
             answer: selection_records::gain_record(body),
-            searcher,
-            reader,
-        },
-        5 => LentStep {
-            answer: selection_records::filtering_record(words, body),
             searcher,
             reader,
         },

@@ -6,7 +6,7 @@ use Rattle.refusal.specs.Refused.{Told, values, turned-down}
 use Rattle.pitch.specs.declared.PitchLag.{PitchLag}
 use Rattle.pitch.specs.Kinds.{thirds}
 use Rattle.pitch_search.specs.declared.SearchedPitch.{SearchedPitch}
-use Rattle.codebook_search.specs.declared.PulseWords.{PulseWords}
+use Rattle.codebook_code.specs.declared.PulseWords.{PulseWords}
 use Rattle.gain.specs.declared.QuantizedGain.{QuantizedGain}
 use Rattle.selection_answers.specs.declared.Answer.{Answer}
 use Rattle.selection_answers.specs.declared.Answer.the-variants.{End, Reset, Open, Pitch, Pulses, Gain, Filter, Lag, Refused}

@@ -1,5 +1,5 @@
 // What a record answers, with the fields that the program prints, from 01, 'Feed and program'.
-use codebook_search::PulseWords;
+use codebook_code::PulseWords;
 use codebook_search::Pulses;
 use gain::Quantized;
 use gain::QuantizedGain;
@@ -8,15 +8,16 @@ use pitch::OpenLoop;
 use pitch::PitchLag;
 use pitch_search::Found;
 use refusal::Refusal;
-ghost use mathlib.Core.List.{List};
+ghost use mathlib.Core.List.{List, []};
 ghost use mathlib.Core.Path.{_≡_};
 ghost use lib.IntN.{ℤ};
-ghost use Rattle.refusal.specs.Refused.{put};
+ghost use Rattle.refusal.specs.Refused.{put, turned-down};
 ghost use Rattle.pitch.specs.Kinds.{told-lag};
 ghost use Rattle.lag_reader.specs.Readers.{told-reading};
 ghost use Rattle.pitch_search.specs.Searches.{told};
 ghost use Rattle.codebook_search.specs.Pulses.{told-words};
 ghost use Rattle.gain.specs.Rows.{told-row};
+ghost use Rattle.selection_answers.specs.Fields.{accepted-line, fields-of};
 ghost use Rattle.selection_answers.specs.Lines.{hertz, open-line, pitch-line, pulse-line, gain-line, lag-line, told-answer};
 
 const SAMPLE_RATE: u16 = 8000;
@@ -106,4 +107,80 @@ fn hertz(lag: u16) -> u16
         return 0;
     }
     SAMPLE_RATE / lag
+}
+
+// ---- An answer in numbers: `number` is 0, or a refusal's with its detail.
+
+pub struct Fields {
+    pub number: u8,
+    pub negative: bool,
+    pub magnitude: u64,
+    // The kind, 0 to 6, or 7 where the feed ends; then the fields that the program prints, zeros behind the last. Those of `filter` are the words.
+    pub line: u8,
+    pub first: i32,
+    pub second: i32,
+    pub third: i32,
+    pub fourth: i32,
+}
+
+pub fn fields_of(answer: Answer) -> Fields
+    ensures { λ r. ⌜ r ≡ fields-of (told-answer answer []) ⌝ }
+{
+    match answer {
+        Answer::End => accepted_line(7, 0, 0, 0, 0),
+        Answer::Reset => accepted_line(0, 0, 0, 0, 0),
+        Answer::Open(lag) => accepted_line(1, lag as i32, 0, 0, 0),
+        Answer::Pitch { index, lag, hertz } => {
+            let fraction = lag.fraction;
+            let thirds = fraction.thirds() as i32;
+            accepted_line(2, index as i32, lag.samples as i32, thirds, hertz as i32)
+        }
+        Answer::Pulses(words) => {
+            accepted_line(3, words.positions as i32, words.signs as i32, 0, 0)
+        }
+        Answer::Gain(chosen) => {
+            let row = chosen.row;
+            let pitch = row.pitch_q14 as i32;
+            let correction = row.correction_q12 as i32;
+            accepted_line(4, chosen.index as i32, pitch, correction, 0)
+        }
+        Answer::Filter => accepted_line(5, 0, 0, 0, 0),
+        Answer::Lag { lag, hertz } => {
+            let fraction = lag.fraction;
+            let thirds = fraction.thirds() as i32;
+            accepted_line(6, lag.samples as i32, thirds, hertz as i32, 0)
+        }
+        Answer::Refused(refusal) => refused_line(refusal),
+    }
+}
+
+fn accepted_line(line: u8, first: i32, second: i32, third: i32, fourth: i32) -> Fields
+    ensures { λ r. ⌜ r ≡ accepted-line line first second third fourth ⌝ }
+{
+    Fields {
+        number: 0,
+        negative: false,
+        magnitude: 0,
+        line,
+        first,
+        second,
+        third,
+        fourth,
+    }
+}
+
+fn refused_line(refusal: Refusal) -> Fields
+    ensures { λ r. ⌜ r ≡ fields-of (turned-down refusal) ⌝ }
+{
+    let detail = refusal.detail();
+    Fields {
+        number: refusal.number(),
+        negative: detail.negative,
+        magnitude: detail.magnitude,
+        line: 0,
+        first: 0,
+        second: 0,
+        third: 0,
+        fourth: 0,
+    }
 }

@@ -1,9 +1,4 @@
-//! The recorded sample of target filtering: calls with the answers of the published Rust, for the
-//! replay program. The library's answers are not asked for.
-//!
-//! A record has 184 bytes: the words of a call in the order of `prepare`. Its two lines are
-//! `residual` with the words that `residual` answers of the coefficients and the speech, and
-//! `filter` with those that `prepare` answers, residual, impulse response, target and error.
+//! The recorded sample of target filtering: the calls, as records of a feed.
 
 use super::{
     Call,
@@ -11,12 +6,10 @@ use super::{
     filters, residual,
     sources::{self, Drawn},
 };
-use crate::{
-    codec::mr74::encoder_filtering::PreparedSubframe,
-    counts::Found,
-    feed::bytes,
-    record::{Kind, Recorded},
-};
+use crate::{counts::Found, selection::bodies};
+
+/// The kind of a filtering record.
+const FILTER: u8 = 5;
 
 /// The records, and the calls that are looked at for those which meet a case.
 const RECORDS: usize = 60;
@@ -98,37 +91,35 @@ impl Met {
 
 /// The calls that meet a case which none before them met, then further ones of all sources. No feed
 /// is among them, so that the sample is the same without one.
-pub fn sample() -> Recorded {
-    let mut recorded = Recorded::default();
+pub fn sample() -> Vec<u8> {
+    let mut calls = Vec::new();
     let mut met = Met::new();
     for index in 0..CALLS {
         let drawn = Drawn::at(index, &[]);
         let by = Met::by(&drawn);
         if !by.is_within(&met) {
             met.add(&by);
-            record(&mut recorded, &drawn.call);
+            calls.push(drawn.call);
         }
     }
     met.assert_all();
     for index in CALLS.. {
-        if recorded.records >= RECORDS {
+        if calls.len() >= RECORDS {
             break;
         }
-        record(&mut recorded, &Drawn::at(index, &[]).call);
+        calls.push(Drawn::at(index, &[]).call);
     }
-    recorded
+    calls.iter().flat_map(record).collect()
 }
 
-fn record(recorded: &mut Recorded, call: &Call) {
-    recorded.begin(Kind::Filtering);
-    recorded.stdin.extend(bytes(&call.lists().concat()));
-    recorded.line("residual", call.residual());
-    let PreparedSubframe {
-        residual_q0,
-        impulse_q12,
-        target_q0,
-        error_q0,
-    } = call.prepare();
-    let words = [residual_q0, impulse_q12, target_q0, error_q0].concat();
-    recorded.line("filter", words);
+/// The call, and again with its coefficients as the quantised ones too: the residual is then what
+/// `residual` answers of the coefficients and the speech.
+fn record(call: &Call) -> Vec<u8> {
+    let alike = Call {
+        quantized: call.coefficients,
+        ..*call
+    };
+    assert_eq!(alike.prepare().residual_q0, call.residual(), "the residual");
+    let records = [call, &alike].map(|call| [vec![FILTER], bodies::filtering(call)].concat());
+    records.concat()
 }

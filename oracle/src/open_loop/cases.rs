@@ -114,6 +114,14 @@ impl Case {
         }
     }
 
+    /// Whether the case is a refusal, which no record of a feed can meet.
+    pub fn is_refused(self) -> bool {
+        matches!(
+            self,
+            Self::RefusedSamples | Self::RefusedHistory | Self::RefusedBoth
+        )
+    }
+
     /// Whether only a feed can meet the case.
     pub fn needs_feed(self) -> bool {
         matches!(self, Self::Feed | Self::ChangedFeed)

@@ -10,7 +10,7 @@ use crate::{
     calls,
     codec::mr74::gain::quantization::GainLimit,
     feed::{BODIES, sample_bytes},
-    gain, pulses,
+    filtering, gain, open_loop, pulses,
     record::write_files,
     words::{EXCITATION, SUBFRAME},
 };
@@ -64,6 +64,8 @@ pub fn write(folder: &Path) -> io::Result<usize> {
     let speech = sample()?;
     let mut feed = listing();
     feed.extend(&speech[..length(&speech, SPEECH_RECORDS)]);
+    feed.extend(open_loop::record::sample());
+    feed.extend(filtering::record::sample());
     for drawn in [EXTREME, TRUNCATED] {
         // The records are drawn for fresh stages.
         feed.push(RESET);

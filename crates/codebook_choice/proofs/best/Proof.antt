@@ -13,7 +13,8 @@ use mir.Val.{toZ, ofZ}
 use mir.Facts.{toZ-ofZ}
 use Rattle.fixed.proofs.Bounds.{got}
 use Rattle.fixed.specs.Lists.{at}
-use Rattle.codebook_choice.specs.Choices.{exceeds, none-in, best-step}
+use Rattle.codebook_steps.specs.Steps.{exceeds, none-in}
+use Rattle.codebook_choice.specs.Choices.{best-step}
 use Rattle.codebook_choice.proofs.Tracks.{candidate, Held, number-more, number-less}
 
 abbrev Inv-loop : tie.InvT-loop

@@ -13,7 +13,8 @@ use Rattle.fixed.proofs.Bounds.{got}
 use Rattle.fixed.specs.Operators.{round, L-deposit-h, L-mac}
 use Rattle.fixed.proofs.Lists.{Filling, filling-more, filling-all}
 use Rattle.codebook_matrix.specs.Matrices.{cell}
-use Rattle.codebook_choice.specs.Choices.{step-to, fourth-at}
+use Rattle.codebook_steps.specs.Steps.{step-to}
+use Rattle.codebook_choice.specs.Choices.{fourth-at}
 
 -- the energy at place k of a track
 abbrev energy : List (List ℤ) → ℕ → ℕ → ℕ → ℕ → ℤ → ℕ → ℤ

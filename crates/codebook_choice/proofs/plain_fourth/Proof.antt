@@ -7,7 +7,8 @@ use Prim.Native.Nat.{_+_, _*_}
 use mir.Syntax.{w16}
 use mir.Val.{toZ, ofZ}
 use Rattle.fixed.proofs.Bounds.{got}
-use Rattle.codebook_choice.specs.Choices.{step-to, fourth-at}
+use Rattle.codebook_steps.specs.Steps.{step-to}
+use Rattle.codebook_choice.specs.Choices.{fourth-at}
 use Rattle.codebook_choice.proofs.Tracks.{best-of}
 
 squares-requires : tie.Need-squares-requires

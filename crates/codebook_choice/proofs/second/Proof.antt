@@ -8,7 +8,8 @@ use mir.Syntax.{w16}
 use mir.Val.{toZ, ofZ}
 use Rattle.fixed.proofs.Bounds.{got}
 use Rattle.fixed.specs.Lists.{at}
-use Rattle.codebook_choice.specs.Choices.{step-to, second-at}
+use Rattle.codebook_steps.specs.Steps.{step-to}
+use Rattle.codebook_choice.specs.Choices.{second-at}
 use Rattle.codebook_choice.proofs.Tracks.{best-of}
 
 mul-sum : tie.Need-mul-sum

@@ -12,7 +12,8 @@ use Rattle.fixed.proofs.Bounds.{got}
 use Rattle.fixed.specs.Operators.{round, L-mult, L-mac}
 use Rattle.fixed.proofs.Lists.{Filling, filling-more, filling-all}
 use Rattle.codebook_matrix.specs.Matrices.{cell}
-use Rattle.codebook_choice.specs.Choices.{step-to, second-at}
+use Rattle.codebook_steps.specs.Steps.{step-to}
+use Rattle.codebook_choice.specs.Choices.{second-at}
 
 -- the energy at place k of a track
 abbrev energy : List (List ℤ) → ℕ → ℕ → ℤ → ℕ → ℤ

@@ -12,8 +12,9 @@ use mir.Syntax.{w16}
 use mir.Val.{toZ, ofZ}
 use Rattle.fixed.proofs.Bounds.{got}
 use Rattle.fixed.specs.Lists.{at}
-use Rattle.codebook_choice.specs.declared.Step.{Step}
-use Rattle.codebook_choice.specs.Choices.{none-in, best-step, second-at}
+use Rattle.codebook_steps.specs.declared.Step.{Step}
+use Rattle.codebook_steps.specs.Steps.{none-in}
+use Rattle.codebook_choice.specs.Choices.{best-step, second-at}
 use Rattle.codebook_choice.proofs.Starting.{Chosen, none-chosen, one-chosen, none-more, all-chosen}
 
 -- the step from start number n

@@ -2,12 +2,13 @@ use borrow.Author.Needs.{needs}
 use Rattle.codebook_search.proofs.search.Statement.{statement}
 use Rattle.codebook_search.proofs.search.Tie as tie
 use borrow.Author.Tests.{eq-eqb, ne-eqb, le-leb, lt-leb}
-use Rattle.codebook_search.specs.Pulses.{code-4i40-17bits, accepted, pulses}
+use Rattle.codebook_code.specs.Codes.{code-4i40-17bits}
+use Rattle.codebook_search.specs.Pulses.{accepted, pulses}
 use mathlib.Core.Path.{_≡_, refl}
 use lib.IntN.{pos}
 use lib.ListN.{replicate}
 use Rattle.fixed.proofs.Lists.{copied-whole}
-use Rattle.codebook_search.proofs.Lengths.{innovation-length, filtered-length, impulse-length}
+use Rattle.codebook_code.proofs.Lengths.{innovation-length, filtered-length, impulse-length}
 
 returns : tie.Need-returns
 unfolding pulses

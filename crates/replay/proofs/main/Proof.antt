@@ -3,19 +3,16 @@ use Rattle.replay.proofs.main.Statement.{statement}
 use Rattle.replay.proofs.main.Tie as tie
 
 abbrev Inv-loop : tie.InvT-loop
-Inv-loop replay₀ remaining₀ replay remaining = Unit {0}
+Inv-loop open₀ remaining₀ is-open remaining = Unit {0}
 
 abbrev μ-loop : tie.MeasureT-loop
-μ-loop replay₀ remaining₀ replay remaining = remaining
+μ-loop open₀ remaining₀ is-open remaining = remaining
 
 slice-aggregate-write-all : tie.Need-slice-aggregate-write-all Inv-loop μ-loop
 slice-aggregate-write-all c = search needs
 
 write-all-requires : tie.Need-write-all-requires Inv-loop μ-loop
 write-all-requires c κs = search needs
-
-fresh-requires : tie.Need-fresh-requires Inv-loop μ-loop
-fresh-requires c κs = search needs
 
 loop-holds : tie.Need-loop-holds Inv-loop μ-loop
 loop-holds c = search needs
@@ -46,7 +43,6 @@ main-spec =
     μ-loop
     slice-aggregate-write-all
     write-all-requires
-    fresh-requires
     loop-holds
     step-requires
     sub-remaining

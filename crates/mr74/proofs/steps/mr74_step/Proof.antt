@@ -19,9 +19,10 @@ use Rattle.pitch_state.proofs.Checkings.{refused-by, accepted-by}
 use Rattle.feed.specs.Records.{header, body}
 use Rattle.selection_answers.specs.declared.Answer.{Answer}
 use Rattle.selection_answers.specs.declared.Answer.the-variants.{End, Reset, Open, Pitch, Pulses, Gain, Filter, Lag, Refused}
+use Rattle.selection_answers.specs.Fields.{fields-of}
 use Rattle.selection_answers.specs.Lines.{told-answer}
 use Rattle.selection.specs.Steps.{Step, selection-of, told-lent, step-lent}
-use Rattle.mr74.specs.Steps.{subframes-at, fields-of, step-answer, StepInNumbers, of-step, step-in-numbers}
+use Rattle.mr74.specs.Steps.{subframes-at, step-answer, StepInNumbers, of-step, step-in-numbers}
 use Rattle.mr74.proofs.Lengths.{step-kept}
 use borrow.Author.Needs.{needs}
 use Rattle.mr74.proofs.steps.mr74_step.Statement.{statement}

@@ -4,8 +4,8 @@ use Prim.Native.Nat.{ℕ, _≤_}
 use native.Mathlib.Omega.{arith}
 use Rattle.pitch.specs.Kinds.{absolute}
 use Rattle.pitch.specs.Indexes.{index-of}
-use Rattle.pitch_search.specs.Searches.{start-of, pitch-in}
-use Rattle.pitch_search.proofs.Sendings.{start-low, start-high, sent-back, sent-fits}
+use Rattle.pitch_window.specs.Windows.{start-of, pitch-in}
+use Rattle.pitch_window.proofs.Sendings.{sent-back, sent-fits}
 use borrow.Author.Needs.{needs}
 use Rattle.pitch_search.proofs.Search.accepted.Statement.{statement}
 use Rattle.pitch_search.proofs.Search.accepted.Tie as tie
@@ -18,17 +18,8 @@ byte false n h = omega arith
 window-start-requires : tie.Need-window-start-requires
 window-start-requires c κs = search needs
 
-pitch-in-requires : tie.Need-pitch-in-requires
-pitch-in-requires c κs =
-    let a = c .before .args in
-    let n = a .self .next in
-    let p = a .self .previous .samples in (
-      c .before .pre .0,
-      c .before .pre .1,
-      c .before .pre .2,
-      rw (c .window-start .ensures) (start-low p (a .first) (a .second) n),
-      rw (c .window-start .ensures) (start-high p (a .first) (a .second) n),
-    )
+chosen-lag-requires : tie.Need-chosen-lag-requires
+chosen-lag-requires c κs = search needs
 
 index-requires : tie.Need-index-requires
 index-requires c κs = search needs
@@ -39,7 +30,7 @@ cast-index c =
     let a = w .before .before .args in
     let n = a .self .next in
     let f = sent-fits (a .self .previous .samples) (a .first) (a .second) (a .excitation .now) (a .target .now) (a .impulse .now) n in
-    let e : c .index .result ≤ cond (absolute n) 255 31 = rw (c .index .ensures, w .pitch-in .ensures, w .before .window-start .ensures) f in
+    let e : c .index .result ≤ cond (absolute n) 255 31 = rw (c .index .ensures, w .chosen-lag .ensures, w .before .window-start .ensures) f in
     record { fits = omega (arith, byte (absolute n) (c .index .result) e) }
 
 decoded-requires : tie.Need-decoded-requires
@@ -57,7 +48,7 @@ returns c =
     let p = a .self .previous .samples in
     let start = start-of n p (a .first) (a .second) in
     let l = pitch-in n start (a .excitation .now) (a .target .now) (a .impulse .now) in
-    let i : m .index .result ≡ index-of n start l = rw (m .index .ensures, w .pitch-in .ensures, w .before .window-start .ensures) in
+    let i : m .index .result ≡ index-of n start l = rw (m .index .ensures, w .chosen-lag .ensures, w .before .window-start .ensures) in
     let r : c .before .decoded .result ≡ l =
     rw (c .before .decoded .ensures, i) (sent-back p (a .first) (a .second) (a .excitation .now) (a .target .now) (a .impulse .now) n)
     in
@@ -68,7 +59,7 @@ accepted-spec =
     tie.close
     (tie.spec
     window-start-requires
-    pitch-in-requires
+    chosen-lag-requires
     index-requires
     cast-index
     decoded-requires

@@ -1,0 +1,12 @@
+use mathlib.Core.Path.{refl}
+use Rattle.fixed.specs.Lists.{tabulate, tabulate-from}
+use Rattle.gain_table.specs.Rows.{table, half}
+use Rattle.gain_table.proofs.rows_64_to_127.Statement.{statement}
+use Rattle.gain_table.proofs.rows_64_to_127.Tie as tie
+
+returns : tie.Need-returns
+unfolding half table tabulate tabulate-from
+returns c = refl
+
+pub rows-64-to-127-spec : {M : Type 1} → statement M
+rows-64-to-127-spec = tie.close (tie.spec returns)
