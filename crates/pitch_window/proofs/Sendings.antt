@@ -1,10 +1,11 @@
--- What a search sends is read back, whatever the correlations are.
-use mathlib.Core.Path.{_≡_}
+-- The window of a search, the choice in it; what it sends is read back, whatever the correlations are.
+use mathlib.Core.Path.{_≡_, ap}
 use mathlib.Core.Bool.{true, false, cond}
 use mathlib.Core.List.{List}
-use Prim.Native.Nat.{ℕ, _+_, _≤_}
+use Prim.Native.Nat.{ℕ, _+_, _-_, _≤_}
 use native.Mathlib.Omega.{arith}
 use lib.IntN.{ℤ}
+use lib.ListN.{length}
 use Rattle.pitch.specs.declared.Subframe.{Subframe}
 use Rattle.pitch.specs.declared.Subframe.the-variants.{One, Two, Three, Four}
 use Rattle.pitch.specs.declared.PitchLag.{PitchLag}
@@ -12,6 +13,8 @@ use Rattle.pitch.specs.Kinds.{absolute}
 use Rattle.pitch.specs.Windows.{handset, absolute-start, relative-start}
 use Rattle.pitch.specs.Indexes.{absolute-index, relative-index, absolute-lag, relative-lag, index-of, lag-of}
 use Rattle.pitch.proofs.Indexings.{window-low, window-high, absolute-round, relative-round}
+use Rattle.pitch_correlation.specs.Correlations.{correlations}
+use Rattle.pitch_correlation.proofs.Filterings.{norm-corr}
 use Rattle.pitch_choice.specs.Choices.{chosen}
 use Rattle.pitch_choice.proofs.Choosings.{chosen-low, chosen-high, chosen-absolute}
 use Rattle.pitch_window.specs.Windows.{start-of, span-of, pitch-in}
@@ -50,6 +53,16 @@ module _ (previous first second : ℕ) where
     -- the lag that a search in subframe s chooses
     abbrev lag-in : Subframe → PitchLag
     lag-in s = pitch-in s (start-of s previous first second) exc target hs
+
+    -- for lists of 194, 40 and 40 words, and so behind a search's checks, it is the choice among Norm_Corr's correlations
+    pub among-correlations : length exc ≡ 194 → length target ≡ 40 → length hs ≡ 40 → (s : Subframe) →
+        let start = start-of s previous first second in
+        lag-in s ≡ chosen (absolute s) (correlations exc target hs (start - 4) (start + span-of s + 4 + 1)) start (span-of s)
+    unfolding pitch-in
+    among-correlations e t h s =
+        let start = start-of s previous first second in
+        ap (λ (cs : List ℤ). chosen (absolute s) cs start (span-of s))
+        (norm-corr exc target hs (start - 4) (start + span-of s + 4 + 1) e t h (omega arith) (omega (arith, start-high s)))
 
     pub sent-back : (s : Subframe) → lag-of s previous (index-of s (start-of s previous first second) (lag-in s)) ≡ lag-in s
     unfolding pitch-in
