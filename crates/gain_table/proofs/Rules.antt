@@ -1,17 +1,15 @@
 -- The table's rule, by one test over the whole of it, carried to each row.
-use mathlib.Core.Path.{_≡_, refl, ap}
+use mathlib.Core.Path.{_≡_, refl}
 use mathlib.Core.Bool.{Bool, true, false, cond}
 use mathlib.Core.List.{List, []}
-use Prim.Native.Nat.{ℕ, _+_, _-_, _<_, _≤_}
-use native.Mathlib.Omega.{arith}
+use Prim.Native.Nat.{ℕ, _<_, _≤_}
 use lib.Dec.{T, leb, ltb, leb→le}
 use lib.IntN.{ℤ, pos, natAbs}
 use lib.ListN.{getD, List·getD-eq-default}
 use lib.Signed.{leZ}
 use Rattle.fixed.specs.Lists.{at}
-use Rattle.fixed.proofs.Lists.{at-tabulate}
 use Rattle.fixed.proofs.Tables.{both, both-left, both-right, at as tested-at}
-use Rattle.gain_table.specs.Rows.{table, cell, pitch, correction, row, half, Ruled}
+use Rattle.gain_table.specs.Rows.{table, pitch, correction, Ruled}
 
 same : Bool → Bool → Bool
 same true b = b
@@ -62,23 +60,6 @@ pitch-small i h = leb→le (natAbs (pitch i)) 32767 (both-left (leb (natAbs (pit
 pub correction-small : (i : ℕ) → i < 128 → natAbs (correction i) ≤ 32767
 unfolding small
 correction-small i h = leb→le (natAbs (correction i)) 32767 (both-right (leb (natAbs (pitch i)) 32767) _ (all-small i h))
-
--- ---- the halves
-pub in-half : (from i : ℕ) → i < 64 → getD (half from) i [] ≡ getD table (from + i) []
-unfolding half
-in-half from i h = at-tabulate (λ k. getD table (from + k) []) [] 64 i h
-
-pub number-in : (rows : List (List ℤ)) (from i c : ℕ) → rows ≡ half from → i < 64 → at (getD rows i []) c ≡ cell c (from + i)
-number-in rows from i c e h = rw e (ap (λ (row : List ℤ). at row c) (in-half from i h))
-
-pub row-in : (rows : List (List ℤ)) (from index : ℕ) → rows ≡ half from → from ≤ index → index < from + 64 →
-    row index ≡ record { «pitch_q14» = at (getD rows (index - from) []) 0; «correction_q12» = at (getD rows (index - from) []) 1; «energy_q10» = at (getD rows (index - from) []) 2 }
-unfolding row
-row-in rows from index e low high =
-    let i = index - from in
-    let h : i < 64 = omega arith in
-    let s : from + i ≡ index = omega arith in
-    rw (number-in rows from i 0 e h, number-in rows from i 1 e h, number-in rows from i 2 e h, s)
 
 -- past the last row there is none
 pub past-end : (i : ℕ) → 128 ≤ i → getD table i [] ≡ []

@@ -2,7 +2,7 @@
 use mathlib.Core.Path.{_≡_}
 use mathlib.Core.Bool.{true}
 use mathlib.Core.List.{List, [], _∷_}
-use Prim.Native.Nat.{ℕ, _+_}
+use Prim.Native.Nat.{ℕ}
 use lib.Dec.{ltb}
 use lib.IntN.{ℤ, pos, negsuc}
 use lib.ListN.{getD}
@@ -156,10 +156,6 @@ correction i = cell 1 i
 -- a row
 unfoldable pub row : ℕ → GainRow
 row i = record { «pitch_q14» = pitch i; «correction_q12» = correction i; «energy_q10» = cell 2 i }
-
--- the 64 rows from one on
-unfoldable pub half : ℕ → List (List ℤ)
-half from = tabulate (λ i. getD table (from + i) []) 64
 
 -- the columns
 unfoldable pub column : ℕ → List ℤ

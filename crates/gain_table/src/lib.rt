@@ -1,18 +1,14 @@
 // TS 26.073 table_gain_highrates, from gain.rs: 128 rows of pitch gain Q14, correction of the innovation's gain Q12, and the quantised energy Q10 that
-// IS-641 predicts from. It is a crate of its own so that no other pays for checking it, and its rows stand in two halves: one constant of 128 rows takes
-// three times as long to check.
-ghost use mathlib.Core.List.{[]};
+// IS-641 predicts from. It is a crate of its own so that no other pays for checking it.
 ghost use mathlib.Core.Path.{_≡_};
 ghost use Prim.Native.Nat.{_<_};
-ghost use lib.ListN.{getD};
-ghost use Rattle.fixed.specs.Lists.{at};
-ghost use Rattle.gain_table.specs.Rows.{half, row, column, pitches, corrections};
+ghost use Rattle.gain_table.specs.Rows.{table, row, column, pitches, corrections};
 
 const ROWS: usize = 128;
 
 const HALF: usize = 64;
 
-const TABLE_0_TO_63: [[i16; 3]; 64] = [
+const TABLE: [[i16; 3]; 128] = [
     [577, 662, -16214],
     [806, 1836, -7135],
     [3109, 1052, -12086],
@@ -77,9 +73,6 @@ const TABLE_0_TO_63: [[i16; 3]; 64] = [
     [12128, 8329, 6312],
     [10969, 10777, 8604],
     [10300, 17376, 12853],
-];
-
-const TABLE_64_TO_127: [[i16; 3]; 64] = [
     [13899, 1681, -7921],
     [12580, 2045, -6179],
     [13265, 2439, -4610],
@@ -152,18 +145,11 @@ pub struct GainRow {
     pub energy_q10: i16,
 }
 
-// Only here does the code name the constants: each place that does pays for their rows.
-
-fn rows_0_to_63() -> [[i16; 3]; 64]
-    ensures { λ r. ⌜ r ≡ half 0 ⌝ }
+// Only here does the code name the constant: each place that does pays for its 128 rows.
+fn table() -> [[i16; 3]; 128]
+    ensures { λ r. ⌜ r ≡ table ⌝ }
 {
-    TABLE_0_TO_63
-}
-
-fn rows_64_to_127() -> [[i16; 3]; 64]
-    ensures { λ r. ⌜ r ≡ half 64 ⌝ }
-{
-    TABLE_64_TO_127
+    TABLE
 }
 
 // An index above 127 has the row of three zeros.
@@ -171,23 +157,14 @@ pub fn row(index: u16) -> GainRow
     ensures { λ r. ⌜ r ≡ row index ⌝ }
 {
     let i = index as usize;
-    if i < HALF {
-        return row_in(&rows_0_to_63(), i);
+    if ROWS <= i {
+        return GainRow {
+            pitch_q14: 0,
+            correction_q12: 0,
+            energy_q10: 0,
+        };
     }
-    if i < ROWS {
-        return row_in(&rows_64_to_127(), i - HALF);
-    }
-    GainRow {
-        pitch_q14: 0,
-        correction_q12: 0,
-        energy_q10: 0,
-    }
-}
-
-fn row_in(rows: &[[i16; 3]; 64], i: usize) -> GainRow
-    requires { ⌜ i < 64 ⌝ }
-    ensures { λ r. ⌜ r ≡ record { «pitch_q14» = at (getD (now (rows .entry)) i []) 0; «correction_q12» = at (getD (now (rows .entry)) i []) 1; «energy_q10» = at (getD (now (rows .entry)) i []) 2 } ⌝ }
-{
+    let rows = table();
     GainRow {
         pitch_q14: rows[i][0],
         correction_q12: rows[i][1],
@@ -200,26 +177,26 @@ fn row_in(rows: &[[i16; 3]; 64], i: usize) -> GainRow
 pub fn pitches() -> [i16; 128]
     ensures { λ r. ⌜ r ≡ pitches ⌝ }
 {
-    column(&rows_0_to_63(), &rows_64_to_127(), 0)
+    column(&table(), 0)
 }
 
 pub fn corrections() -> [i16; 128]
     ensures { λ r. ⌜ r ≡ corrections ⌝ }
 {
-    column(&rows_0_to_63(), &rows_64_to_127(), 1)
+    column(&table(), 1)
 }
 
-// Each half is short enough that the compiler unrolls its loop: a column is then a constant, and costs its stores alone.
-fn column(low: &[[i16; 3]; 64], high: &[[i16; 3]; 64], c: usize) -> [i16; 128]
-    requires { ⌜ (now low ≡ half 0) × (now high ≡ half 64) × (c < 3) ⌝ }
+// In two halves, each short enough that the compiler unrolls it: a column is then a constant, and costs its stores alone.
+fn column(rows: &[[i16; 3]; 128], c: usize) -> [i16; 128]
+    requires { ⌜ (now rows ≡ table) × (c < 3) ⌝ }
     ensures { λ r. ⌜ r ≡ column c ⌝ }
 {
     let mut numbers = [0i16; ROWS];
     for i in 0..HALF {
-        numbers[i] = low[i][c];
+        numbers[i] = rows[i][c];
     }
-    for i in 0..HALF {
-        numbers[HALF + i] = high[i][c];
+    for i in HALF..ROWS {
+        numbers[i] = rows[i][c];
     }
     numbers
 }
