@@ -22,14 +22,15 @@
  *        4  the subframe is not the one expected next                         the expected one
  *        5  a relative pitch index is above 31                                the index
  *        6  the pulse stage's lag is outside 19 to 144                        the lag
- *        7  an exponent or a fraction is outside its range                    the exponent if bad,
- *                                                                             else the fraction
+ *        7  an exponent is outside its range                                  the exponent
  *        8  a position word is above 8191, or a sign word above 15            the first such word
  *        9  a feed record has a kind above 6                                  the kind
  *       10  a feed ends inside a record's body                                the body bytes present
+ *       14  a fraction is above 32767, and its exponent is good               the fraction
  *
- * Where several things are wrong the lowest number is given. Lengths are checked in the order of
- * the arguments, a call's subframe before the one that its searcher or reader expects.
+ * Where several things are wrong, the first in the order that each function names is given. Lengths
+ * are checked in the order of the arguments, a call's subframe before the one that its searcher or
+ * reader expects.
  *
  * q0, q10, q12, q13, q14 and q15 in a name say how many of the word's bits are fraction bits.
  */
@@ -63,10 +64,11 @@ enum {
     MR74_ORDER_OF_SUBFRAMES = 4,
     MR74_RELATIVE_INDEX = 5,
     MR74_PULSE_LAG = 6,
-    MR74_POWER = 7,
+    MR74_EXPONENT = 7,
     MR74_PULSE_WORD = 8,
     MR74_KIND = 9,
-    MR74_FEED_END = 10
+    MR74_FEED_END = 10,
+    MR74_FRACTION = 14
 };
 
 /* ---- Target filtering ---- */
@@ -239,7 +241,7 @@ mr74_pitch_gain_answer mr74_pitch_gain(const int16_t *target_q0, size_t target_l
 /*
  * The gain row of a subframe. Reads the target, the filtered adaptive words and the filtered
  * pulses (MR74_SUBFRAME each), the predicted pair (exponent -128 to 127, fraction 0 to 32767) and
- * the limit. Refuses by 1, 2 and 7.
+ * the limit. Refuses by 1, 2, 7 and 14.
  */
 mr74_gain_answer mr74_quantize(const int16_t *target_q0, size_t target_length,
                                const int16_t *adaptive_q0, size_t adaptive_length,
@@ -263,7 +265,7 @@ typedef struct {
 /* The logarithm; 0 and 0 of a value that is not positive. */
 mr74_logarithm mr74_log2(int32_t value);
 
-/* The power: exponent 0 to 30, fraction 0 to 32767. Refuses by 7. */
+/* The power: exponent 0 to 30, fraction 0 to 32767. Refuses by 7 and 14. */
 mr74_power_answer mr74_pow2(uint8_t exponent, uint16_t fraction_q15);
 
 /* ---- Feed: a byte of kind and a body, record after record ---- */
@@ -305,7 +307,7 @@ typedef struct {
  * record, and a refused one, leaves it as it was. Only a pitch record looks at the subframe that
  * the searcher expects, and only a lag reading at the reader's. A reset makes both fresh, whatever
  * they were; a state that a record does not use is handed back as it was given.
- * Refuses by 1 (history, then words), 2 to 7, 9 and 10.
+ * Refuses by 1 (history, then words), 9 and 10, then as the record's stage does: 2 to 7 and 14.
  */
 mr74_step_answer mr74_step(const uint8_t *feed, size_t feed_length, size_t at,
                            mr74_pitch_state searcher, mr74_pitch_state reader,

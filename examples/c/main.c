@@ -77,13 +77,18 @@ static void pulses(const int16_t target[MR74_SUBFRAME], const int16_t impulse[MR
     printf("places %zu %zu %zu %zu\n", read.first, read.second, read.third, read.last);
 }
 
-/* The gain row, for the predicted pair 0, 0. */
+/* The gain row of a predicted pair; where the pair is refused, the half of it that was wrong. */
 static void gain_row(const int16_t target[MR74_SUBFRAME], const int16_t adaptive[MR74_SUBFRAME],
-                     const int16_t filtered[MR74_SUBFRAME], uint8_t limit)
+                     const int16_t filtered[MR74_SUBFRAME], int16_t exponent,
+                     uint16_t fraction_q15, uint8_t limit)
 {
     mr74_gain_answer row = mr74_quantize(target, MR74_SUBFRAME, adaptive, MR74_SUBFRAME, filtered,
-                                         MR74_SUBFRAME, 0, 0, limit);
+                                         MR74_SUBFRAME, exponent, fraction_q15, limit);
     if (row.number != MR74_ACCEPTED) {
+        if (row.number == MR74_EXPONENT)
+            printf("exponent ");
+        if (row.number == MR74_FRACTION)
+            printf("fraction ");
         refused(row.number, row.negative, row.magnitude);
         return;
     }
@@ -102,9 +107,12 @@ static void silence(void)
     /* Subframe 3 is expected, and the searcher stays as it is. */
     pitch(&kept, zeros, zeros, zeros, lag, 2);
     pulses(zeros, zeros, 40, none, filtered);
-    gain_row(zeros, zeros, zeros, MR74_UNRESTRICTED);
-    gain_row(zeros, zeros, zeros, MR74_RESONANCE);
-    gain_row(zeros, zeros, zeros, 2);
+    gain_row(zeros, zeros, zeros, 0, 0, MR74_UNRESTRICTED);
+    gain_row(zeros, zeros, zeros, 0, 0, MR74_RESONANCE);
+    gain_row(zeros, zeros, zeros, 0, 0, 2);
+    /* The exponent is looked at first. */
+    gain_row(zeros, zeros, zeros, -129, 32768, MR74_UNRESTRICTED);
+    gain_row(zeros, zeros, zeros, -128, 32768, MR74_UNRESTRICTED);
     mr74_open_loop_answer bad = mr74_open_loop_lag(144);
     refused(bad.number, false, bad.magnitude);
 }
@@ -158,7 +166,7 @@ static void voiced(void)
     printf("pitch gain %d\n", gain.gain_q14);
     mr74_sharpening_gain sharpening = {8192};
     pulses(target, impulse, found.samples, sharpening, filtered);
-    gain_row(target, adaptive, filtered, MR74_UNRESTRICTED);
+    gain_row(target, adaptive, filtered, 0, 0, MR74_UNRESTRICTED);
     mr74_logarithm level = mr74_log2(8000);
     mr74_power_answer power = mr74_pow2(level.exponent, level.fraction_q15);
     printf("power %d\n", power.value);

@@ -16,8 +16,7 @@ use crate::{
     filtering, gain,
     inputs::{Argument, Inputs, Random, every, sample},
     open_loop::{self, HALF_FRAME},
-    published::{self, POWER_DOMAIN},
-    pulses,
+    published, pulses,
     reader::{Reading, read},
     search,
     selection::first,
@@ -47,7 +46,7 @@ pub fn functions() -> Vec<Function> {
             "logarithm.rs" => told(logarithm::log2(v)),
         }),
         function!("pow2", sample(NUMBERS), |(e, f)| told(mr74::logarithm::pow2(e, f)), {
-            "logarithm.rs" => told(power(e, f)),
+            "logarithm.rs" => told(published::pow2(e, f)),
         }),
         function!(
             "Codebook::try_new",
@@ -242,13 +241,6 @@ fn lag_indexes() -> Inputs<impl Fn(u64) -> Option<(u8, u8)> + Sync> {
 }
 
 // ---- The published answers in the bindings' form.
-
-fn power(exponent: u8, fraction: u16) -> Result<i32, Refusal> {
-    published::pow2(exponent, fraction).map_err(|detail| Refusal {
-        number: POWER_DOMAIN,
-        detail,
-    })
-}
 
 fn read_pulses(positions: u16, signs: u16) -> Result<Codebook, Refusal> {
     Codebook::try_new(positions, signs).map_err(Refusal::from)

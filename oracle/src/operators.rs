@@ -258,7 +258,7 @@ fn logarithm(value: i32) -> Logarithm {
 fn power(exponent: u8, fraction_q15: u16) -> PowerAnswer {
     let (number, magnitude, value) = match published::pow2(exponent, fraction_q15) {
         Ok(value) => (0, 0, value),
-        Err(detail) => (published::POWER_DOMAIN, detail, 0),
+        Err(refusal) => (refusal.number, refusal.detail, 0),
     };
     PowerAnswer {
         number,

@@ -7,21 +7,24 @@
 // `open_loop_scaled` and `open_loop_correlation`.
 include!(concat!(env!("OUT_DIR"), "/published.rs"));
 
+use crate::subframes::Refusal;
 use codec::mr74::{codebook::search::product, logarithm, pitch};
 
-/// The number of the refusal that stands for the published `PowerDomainError`.
-pub const POWER_DOMAIN: u8 = 7;
+/// The numbers of a bad exponent and of a bad fraction whose exponent is good.
+pub const EXPONENT: u8 = 7;
+pub const FRACTION: u8 = 14;
 
-/// The published power, or the detail of the refusal: the exponent where it is outside its domain,
-/// else the fraction.
-pub fn pow2(exponent: u8, fraction_q15: u16) -> Result<i32, u64> {
+/// The published power, or the refusal that stands for the published `PowerDomainError`: of the
+/// exponent where it is outside its domain, else of the fraction.
+pub fn pow2(exponent: u8, fraction_q15: u16) -> Result<i32, Refusal> {
     const MAX_EXPONENT: u8 = 30;
     logarithm::pow2(exponent, fraction_q15).map_err(|_| {
-        if exponent > MAX_EXPONENT {
-            u64::from(exponent)
+        let (number, detail) = if exponent > MAX_EXPONENT {
+            (EXPONENT, exponent.into())
         } else {
-            u64::from(fraction_q15)
-        }
+            (FRACTION, fraction_q15.into())
+        };
+        Refusal { number, detail }
     })
 }
 

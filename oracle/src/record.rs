@@ -16,6 +16,7 @@ use crate::{
     },
     inputs::{Argument, Random},
     published, pulses,
+    subframes::Refusal,
 };
 use std::{
     fmt::{Display, Write},
@@ -188,12 +189,11 @@ impl<A: Answer, B: Answer> Answer for (A, B) {
     }
 }
 
-/// The power, or the detail of its refusal.
-impl Answer for Result<i32, u64> {
+impl Answer for Result<i32, Refusal> {
     fn text(&self) -> String {
         match self {
             Ok(value) => value.text(),
-            Err(detail) => format!("refused {} {detail}", published::POWER_DOMAIN),
+            Err(Refusal { number, detail }) => format!("refused {number} {detail}"),
         }
     }
 }

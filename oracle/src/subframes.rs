@@ -12,7 +12,7 @@ use crate::{
     project::{ACCEPTED, LengthAnswer, PitchAnswer, PitchState},
 };
 
-/// What is turned down, by its number in 01 and its detail.
+/// What is turned down, by its number in 01 or 02 and its detail.
 #[derive(Debug, Clone, Copy, PartialEq, Eq)]
 pub struct Refusal {
     pub number: u8,

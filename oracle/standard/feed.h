@@ -139,7 +139,7 @@ inline Refusal call_of(const Record &record, const State &state, Call &call)
         if (gain.exponent < -128 || gain.exponent > 127)
             return {7, gain.exponent};
         if (gain.fraction < 0)
-            return {7, gain.fraction + 65536};
+            return {14, gain.fraction + 65536};
         gain.limit = body[4] ? 15565 : 32767;
         break;
     }

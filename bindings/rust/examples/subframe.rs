@@ -78,12 +78,9 @@ fn gain_row(
     target: &Words,
     adaptive: &Words,
     filtered: &Words,
+    prediction: Prediction,
     limit: GainLimit,
 ) -> Result<(), Refusal> {
-    let prediction = Prediction {
-        exponent: 0,
-        fraction: 0,
-    };
     let row = quantize(target, adaptive, filtered, prediction, limit)?;
     println!(
         "gain {} {} {}",
@@ -106,11 +103,23 @@ fn silence() -> Result<(), Refusal> {
     }
     let lag = PitchLag::from_absolute(62);
     pulses(&zeros, &zeros, lag, SharpeningGain(0))?;
-    gain_row(&zeros, &zeros, &zeros, GainLimit::Unrestricted)?;
-    gain_row(&zeros, &zeros, &zeros, GainLimit::Resonance)?;
+    let gain = |exponent, fraction, limit| {
+        let prediction = Prediction { exponent, fraction };
+        gain_row(&zeros, &zeros, &zeros, prediction, limit)
+    };
+    gain(0, 0, GainLimit::Unrestricted)?;
+    gain(0, 0, GainLimit::Resonance)?;
     // The type has no third limit, so the library's own function is asked.
     let refused = entries::quantize(&zeros, &zeros, &zeros, 0, 0, 2);
     println!("refused {} {}", refused.number, refused.magnitude);
+    // The exponent is looked at first.
+    for exponent in [-129, -128] {
+        match gain(exponent, 32768, GainLimit::Unrestricted) {
+            Err(Refusal { number: 7, detail }) => println!("exponent refused 7 {detail}"),
+            Err(Refusal { number: 14, detail }) => println!("fraction refused 14 {detail}"),
+            answer => answer?,
+        }
+    }
     if let Err(Refusal { number, detail }) = OpenLoopLag::try_new(144) {
         println!("refused {number} {detail}");
     }
@@ -157,7 +166,12 @@ fn voiced() -> Result<(), Refusal> {
     let adaptive = convolve(&ago, &impulse);
     println!("pitch gain {}", pitch_gain(&target, &adaptive).gain_q14);
     let filtered = pulses(&target, &impulse, found, SharpeningGain(8192))?;
-    gain_row(&target, &adaptive, &filtered, GainLimit::Unrestricted)?;
+    let prediction = Prediction {
+        exponent: 0,
+        fraction: 0,
+    };
+    let limit = GainLimit::Unrestricted;
+    gain_row(&target, &adaptive, &filtered, prediction, limit)?;
     let level = log2(8000);
     println!("power {}", pow2(level.exponent, level.fraction_q15)?);
     Ok(())

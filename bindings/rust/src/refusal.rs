@@ -1,6 +1,6 @@
 use std::{error::Error, fmt};
 
-/// What is turned down, by its number, 1 to 10, and one detail.
+/// What is turned down, by its number, 1 to 10 or 14, and one detail.
 #[derive(Debug, Clone, Copy, PartialEq, Eq)]
 pub struct Refusal {
     pub number: u8,
@@ -47,13 +47,17 @@ impl fmt::Display for Refusal {
             4 => write!(f, "subframe {detail} is expected next"),
             5 => write!(f, "relative pitch index {detail} is above 31"),
             6 => write!(f, "pulse lag {detail} is outside 19 to 144"),
-            7 => write!(f, "exponent or fraction {detail} is outside its range"),
+            7 => write!(
+                f,
+                "exponent {detail} is outside 0 to 30 (a power) or -128 to 127 (a prediction)"
+            ),
             8 => write!(
                 f,
                 "pulse word {detail} is above 8191 (positions) or 15 (signs)"
             ),
             9 => write!(f, "feed record of kind {detail}, above 6"),
             10 => write!(f, "the feed ends after {detail} bytes of a record's body"),
+            14 => write!(f, "fraction {detail} is above 32767"),
             _ => write!(f, "detail {detail}"),
         }
     }

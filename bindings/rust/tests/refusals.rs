@@ -141,19 +141,46 @@ fn pulse_lags_are_refused_by_6() {
 }
 
 #[test]
-fn powers_and_predictions_are_refused_by_7() {
+fn exponents_are_refused_by_7_and_then_fractions_by_14() {
+    assert_eq!(pow2(31, 32767), Err(refusal(7, 31)));
     assert_eq!(pow2(31, 32768), Err(refusal(7, 31)));
-    assert_eq!(pow2(30, 32768), Err(refusal(7, 32768)));
+    assert_eq!(pow2(30, 32768), Err(refusal(14, 32768)));
+    assert_eq!(pow2(0, u16::MAX), Err(refusal(14, 65535)));
+    assert_eq!(pow2(30, 32767), Ok(2147373248));
     assert_eq!(pow2(14, 0), Ok(16384));
     let choose = |exponent, fraction| {
         let prediction = Prediction { exponent, fraction };
         let limit = GainLimit::Unrestricted;
         quantize(&SILENCE, &SILENCE, &SILENCE, prediction, limit).map(|row| row.index)
     };
-    assert_eq!(choose(-129, 0), Err(refusal(7, -129)));
-    assert_eq!(choose(128, 32768), Err(refusal(7, 128)));
-    assert_eq!(choose(127, 32768), Err(refusal(7, 32768)));
+    for fraction in [0, 32767, 32768, u16::MAX] {
+        assert_eq!(choose(-129, fraction), Err(refusal(7, -129)));
+        assert_eq!(choose(128, fraction), Err(refusal(7, 128)));
+    }
+    for exponent in [-128, 0, 127] {
+        assert_eq!(choose(exponent, 32768), Err(refusal(14, 32768)));
+        assert!(choose(exponent, 32767).is_ok());
+    }
     assert_eq!(choose(0, 0), Ok(103));
+}
+
+#[test]
+fn a_step_tells_a_bad_exponent_from_a_bad_fraction() {
+    let step = |exponent: i16, fraction: u16, limit: u8| {
+        let mut feed = vec![4];
+        feed.extend([0; 240]);
+        feed.extend(exponent.to_be_bytes());
+        feed.extend(fraction.to_be_bytes());
+        feed.push(limit);
+        let fresh = entries::fresh_pitch();
+        let answer = entries::step(&feed, 0, fresh, fresh, &mut [0; 143], &mut [0; 160]);
+        (answer.number, answer.negative, answer.magnitude)
+    };
+    assert_eq!(step(0, 0, 0), (0, 0, 0));
+    assert_eq!(step(-129, 32768, 2), (2, 0, 2));
+    assert_eq!(step(-129, 32768, 0), (7, 1, 129));
+    assert_eq!(step(-128, 32768, 0), (14, 0, 32768));
+    assert_eq!(step(-128, 32767, 1), (0, 0, 0));
 }
 
 #[test]
@@ -191,8 +218,13 @@ fn refusals_say_what_is_wrong() {
         ),
         (3, 19, "open-loop lag 19 is outside 20 to 143"),
         (4, 3, "subframe 3 is expected next"),
-        (7, -129, "exponent or fraction -129 is outside its range"),
+        (
+            7,
+            -129,
+            "exponent -129 is outside 0 to 30 (a power) or -128 to 127 (a prediction)",
+        ),
         (10, 2, "the feed ends after 2 bytes of a record's body"),
+        (14, 32768, "fraction 32768 is above 32767"),
     ] {
         let said = refusal(number, detail).to_string();
         assert_eq!(said, format!("MR74 refusal {number}: {words}"));

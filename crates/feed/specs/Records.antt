@@ -1,8 +1,8 @@
 -- 01, 'Feed and program': 'A record is one byte of kind, then a body whose length the kind fixes'.
-use mathlib.Core.Bool.{cond}
+use mathlib.Core.Bool.{Bool, cond, _||_}
 use mathlib.Core.List.{List, [], _∷_}
 use Prim.Native.Nat.{ℕ, _+_, _-_}
-use lib.Dec.{ltb, leb}
+use lib.Dec.{ltb, leb, eqb}
 use lib.IntN.{pos}
 use lib.ListN.{length, getD, take, drop}
 use Rattle.refusal.specs.Refused.{Told, values, refused, turned-down}
@@ -25,6 +25,10 @@ known-kind kind = record { passes = leb kind 6; number = 9; detail = pos kind }
 -- number 10: there are as many body bytes as the kind needs
 abbrev pub whole-body : ℕ → ℕ → Check
 whole-body needed present = record { passes = leb needed present; number = 10; detail = pos present }
+
+-- 01: 'After refusals 9 and 10 it stops', and after no other: behind these two no record can be found
+abbrev pub ends-feed : ℕ → Bool
+ends-feed number = eqb number 9 || eqb number 10
 
 -- what stands at a place: no record, since the feed ends there, or a whole one of a kind, and the place of the next
 pub data Standing : Type 0 where

@@ -6,7 +6,7 @@ ghost use lib.IntN.{pos};
 ghost use lib.ListN.{length};
 ghost use Rattle.fixed.specs.Operators.{extract-l, remainder};
 ghost use Rattle.fixed.specs.Lists.{at, tabulate};
-ghost use Rattle.feed.specs.Records.{told-header, body-length, header, body};
+ghost use Rattle.feed.specs.Records.{told-header, body-length, header, body, ends-feed};
 ghost use Rattle.feed.specs.Words.{words, words-into, swapped};
 
 const LAST_KIND: u8 = 6;
@@ -66,6 +66,13 @@ pub fn body_at(feed: &[u8], at: usize) -> &[u8]
         Header::Record { kind: _, next } => &feed[at + 1..next],
         Header::Refused(_) => &feed[..0],
     }
+}
+
+// Whether a refusal of this number ends the feed. Behind every other the next record follows.
+pub fn ends_feed(number: u8) -> bool
+    ensures { λ r. ⌜ r ≡ ends-feed number ⌝ }
+{
+    number == 9 || number == 10
 }
 
 // The words of a body from a place on, as many as the list takes. Where the body has fewer, the list stays as it was.

@@ -8,9 +8,11 @@ use open_loop::Detector;
 use pitch_search::Search;
 use refusal::Refusal;
 use selection_answers::Fields;
+ghost use mathlib.Core.Bool.{not, cond};
 ghost use mathlib.Core.Path.{_≡_};
 ghost use Prim.Native.Nat.{_+_, _≤_, _<_};
 ghost use lib.ListN.{length};
+ghost use Rattle.feed.specs.Records.{ends-feed};
 ghost use Rattle.feed_lines.specs.Endings.{Stops};
 
 // A line begins at most here, and so fits the output block: it has at most 20 digits, a name, 160 numbers of at most 22 bytes and its end.
@@ -125,7 +127,7 @@ fn stands(header: Header, place: u64, last: bool) -> Ended
 {
     match header {
         Header::Refused(refusal) => {
-            if refusal.number() < 9 {
+            if !feed::ends_feed(refusal.number()) {
                 return Ended::FeedEnd;
             }
             if short(refusal) && !last {
@@ -299,13 +301,16 @@ fn record(
 }
 
 // The state behind a record. 'After refusals 9 and 10 it stops', at that record.
-fn advanced(state: State, searcher: Search, reader: Reader, refusal: u8, end: usize) -> State {
+fn advanced(state: State, searcher: Search, reader: Reader, refusal: u8, end: usize) -> State
+    ensures { λ r. ⌜ (r .open ≡ not (ends-feed refusal)) × (r .at ≡ cond (ends-feed refusal) (state .at) end) ⌝ }
+{
+    let ends = feed::ends_feed(refusal);
     let mut next = state;
     next.searcher = searcher;
     next.reader = reader;
     next.number = std::num::wrapping_add_u64(state.number, 1);
-    next.open = refusal < 9;
-    if refusal < 9 {
+    next.open = !ends;
+    if !ends {
         next.at = end;
     }
     next

@@ -42,7 +42,7 @@ abbrev pub limited : List ℤ → List ℤ → List ℤ → ℤ → ℕ → ℕ 
 limited xs ys zs exponent fraction choice =
     checked (predicted-exponent exponent ∷ power-fraction fraction ∷ []) refused (values (Qua-gain xs ys zs exponent fraction (gp-limit choice)))
 
--- `quantize`: 01, numbers 1, 2 and 7 in that order
+-- `quantize`: 01, numbers 1, 2 and 7, then 02, number 14, in that order
 unfoldable pub quantize : List ℤ → List ℤ → List ℤ → ℤ → ℕ → ℕ → Told QuantizedGain
 quantize xs ys zs exponent fraction choice =
     checked

@@ -5,9 +5,9 @@ use gain_table::GainRow;
 use logarithm::Power;
 use refusal::Refusal;
 ghost use mathlib.Core.Path.{_≡_};
-ghost use Prim.Native.Nat.{_≤_};
 ghost use Rattle.gain_limit.specs.Limits.{limit-number};
-ghost use Rattle.gain.specs.Rows.{gcode0, Qua-gain, told-row, limited, quantize};
+ghost use Rattle.gain_choice.specs.Rows.{nearest-row};
+ghost use Rattle.gain.specs.Rows.{weights, chosen, told-row, limited, quantize};
 
 const SUBFRAME_SAMPLES: usize = 40;
 
@@ -17,7 +17,7 @@ const MIN_EXPONENT: i16 = -128;
 
 const MAX_EXPONENT: i16 = 127;
 
-const MAX_FRACTION: u16 = 32767;
+const GCODE0_EXPONENT: u8 = 14;
 
 pub struct QuantizedGain {
     pub index: u16,
@@ -61,6 +61,7 @@ pub fn quantize(
     }
 }
 
+// The check of the fraction is that of the power which the stage needs of it.
 fn limited(
     target: &[i16; 40],
     adaptive: &[i16; 40],
@@ -77,12 +78,15 @@ fn limited(
     if MAX_EXPONENT < exponent {
         return Quantized::Refused(Refusal::Exponent(exponent));
     }
-    if MAX_FRACTION < fraction {
-        return Quantized::Refused(Refusal::Fraction(fraction));
+    match logarithm::pow2(GCODE0_EXPONENT, fraction) {
+        Power::Value(power) => {
+            let gcode0 = fixed::low_word(power);
+            let limit_q14 = limit.pitch_q14();
+            let chosen = qua_gain(target, adaptive, filtered, exponent, gcode0, limit_q14);
+            Quantized::Row(chosen)
+        }
+        Power::Refused(refusal) => Quantized::Refused(refusal),
     }
-    let limit_q14 = limit.pitch_q14();
-    let chosen = qua_gain(target, adaptive, filtered, exponent, fraction, limit_q14);
-    Quantized::Row(chosen)
 }
 
 fn qua_gain(
@@ -90,29 +94,18 @@ fn qua_gain(
     adaptive: &[i16; 40],
     filtered: &[i16; 40],
     exponent: i16,
-    fraction: u16,
+    gcode0: i16,
     limit_q14: i16,
 ) -> QuantizedGain
-    requires { ⌜ fraction ≤ 32767 ⌝ }
-    ensures { λ r. ⌜ r ≡ Qua-gain (now (target .entry)) (now (adaptive .entry)) (now (filtered .entry)) exponent fraction «limit_q14» ⌝ }
+    ensures { λ r. ⌜ r ≡ chosen (nearest-row (weights (now (target .entry)) (now (adaptive .entry)) (now (filtered .entry)) exponent) gcode0 «limit_q14») ⌝ }
 {
     let gain = gain_pitch::g_pitch(target, adaptive);
     let innovation = sums::shifted40(filtered, -3);
     let code = fixed::sub16(exponent, CODE_EXPONENT_BIAS);
     let weights = gain_coefficients::coefficients(target, adaptive, &innovation, gain, code);
-    let index = gain_choice::nearest_row(&weights, gcode0(fraction), limit_q14);
+    let index = gain_choice::nearest_row(&weights, gcode0, limit_q14);
     QuantizedGain {
         index,
         row: gain_table::row(index),
-    }
-}
-
-fn gcode0(fraction: u16) -> i16
-    requires { ⌜ fraction ≤ 32767 ⌝ }
-    ensures { λ r. ⌜ r ≡ gcode0 fraction ⌝ }
-{
-    match logarithm::pow2(14, fraction) {
-        Power::Value(value) => fixed::low_word(value),
-        Power::Refused(_) => 0,
     }
 }

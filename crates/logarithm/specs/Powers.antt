@@ -26,6 +26,6 @@ abbrev pub told : Power → Told ℤ
 told (Value v) = values v
 told (Refused r) = turned-down r
 
--- `pow2`: 01, number 7, the exponent and then the fraction
+-- `pow2`: 01, number 7, the exponent; then 02, number 14, the fraction
 unfoldable pub Pow2 : ℕ → ℕ → Told ℤ
 Pow2 exponent fraction = checked (power-exponent exponent ∷ power-fraction fraction ∷ []) refused (values (pos (power exponent fraction)))

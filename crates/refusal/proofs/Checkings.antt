@@ -1,10 +1,15 @@
 -- A list of checks: it accepts where every check passes, and refuses, leaving the state as it was, where one does not.
 use mathlib.Core.Path.{_≡_, refl, sym, ap, _∙_}
-use mathlib.Core.Bool.{Bool, true, false}
+use mathlib.Core.Bool.{Bool, true, false, cond}
 use mathlib.Core.List.{List, [], _∷_}
+use mathlib.Core.Logic.{_⊎_, inl, inr}
+use Prim.Native.Nat.{ℕ}
+use native.Mathlib.Omega.{arith}
+use lib.IntN.{ℤ}
 use Rattle.fixed.proofs.Clips.{contradiction}
-use Rattle.refusal.specs.Refused.{Told, values, refused, accepts}
-use Rattle.refusal.specs.Checks.{Check, Outcome, unless-refused}
+use Rattle.refusal.specs.declared.Refusal.{Refusal}
+use Rattle.refusal.specs.Refused.{Told, values, refused, accepts, number, detail, turned-down}
+use Rattle.refusal.specs.Checks.{Check, Outcome, checked, unless-refused}
 
 abbrev pub Passes : List Check → Type 0
 Passes [] = Unit {0}
@@ -45,3 +50,39 @@ module _ {A S : Type 0} (s : S) (a : Outcome A S) where
   -- so a refusal leaves the state as it was, where what is accepted has values
   pub kept : (cs : List Check) → accepts (a .answer) ≡ true → accepts (unless-refused cs s a .answer) ≡ false → unless-refused cs s a .after ≡ s
   kept cs h e = failed cs (λ p. contradiction (sym e ∙ ap (λ (o : Outcome A S). accepts (o .answer)) (passed cs p) ∙ h)) .1
+
+-- one check by itself, for an entry that hands on what a callee told: where it accepted, the check passes and the values are its own
+module _ {A : Type 0} (c : Check) (v : A) where
+  pub accepted-alone : (w : A) → values w ≡ checked (c ∷ []) refused (values v) → (c .passes ≡ true) × (w ≡ v)
+  accepted-alone w e = go (c .passes) refl
+    where
+      go : (t : Bool) → c .passes ≡ t → (c .passes ≡ true) × (w ≡ v)
+      go true q = let f : values w ≡ values v = rw q at e in (q, cc)
+      go false q = let f : values w ≡ refused (c .number) (c .detail) = rw q at e in let z : _≡_ {A = ℕ} 0 1 = cc in absurd (omega arith)
+
+  -- where it refused, so does a list that begins with the check, whatever follows it
+  pub refused-alone : {B : Type 0} (rest : Told B) (r : Refusal) →
+      turned-down {A = A} r ≡ checked (c ∷ []) refused (values v) → turned-down r ≡ cond (c .passes) rest (refused (c .number) (c .detail))
+  refused-alone rest r e = go (c .passes) refl
+    where
+      go : (t : Bool) → c .passes ≡ t → turned-down r ≡ cond (c .passes) rest (refused (c .number) (c .detail))
+      go true q = let f : turned-down {A = A} r ≡ values v = rw q at e in let z : _≡_ {A = ℕ} 0 1 = cc in absurd (omega arith)
+      go false q =
+          let f : turned-down {A = A} r ≡ refused (c .number) (c .detail) = rw q at e in
+          let g : number r ≡ c .number = cc in
+          let h : detail r ≡ c .detail = cc in
+          rw (q, g, h)
+
+-- whose refusal it is: that of the first check that fails, and those before it pass
+abbrev pub Given-by : List Check → ℕ → ℤ → Type 0
+Given-by [] n d = ⊥
+Given-by (c ∷ cs) n d = ((c .passes ≡ false) × (c .number ≡ n) × (c .detail ≡ d)) ⊎ ((c .passes ≡ true) × Given-by cs n d)
+
+module _ {A : Type 0} (v : A) (n : ℕ) (d : ℤ) where
+  pub given-by : (cs : List Check) → checked cs refused (values v) ≡ refused n d → Given-by cs n d
+  given-by [] e = let z : _≡_ {A = ℕ} 0 1 = cc in absurd (omega arith)
+  given-by (c ∷ cs) e = go (c .passes) refl (given-by cs)
+    where
+      go : (t : Bool) → c .passes ≡ t → (checked cs refused (values v) ≡ refused n d → Given-by cs n d) → Given-by (c ∷ cs) n d
+      go true q rest = inr (q, rest (rw q at e))
+      go false q rest = let f : _≡_ {A = Told A} (refused (c .number) (c .detail)) (refused n d) = rw q at e in inl (q, cc, cc)

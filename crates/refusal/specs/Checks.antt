@@ -64,9 +64,9 @@ power-exponent n = record { passes = leb n 30; number = 7; detail = pos n }
 abbrev pub predicted-exponent : ℤ → Check
 predicted-exponent e = record { passes = leZ (negsuc 127) e && leZ e (pos 127); number = 7; detail = e }
 
--- and the fraction of either at most 32767
+-- 02, number 14: 'a fraction above 32767 whose exponent is good, directly after 7'; of a power and of a prediction alike
 abbrev pub power-fraction : ℕ → Check
-power-fraction n = record { passes = leb n 32767; number = 7; detail = pos n }
+power-fraction n = record { passes = leb n 32767; number = 14; detail = pos n }
 
 -- number 8: a position word is at most 8191
 abbrev pub position-word : ℕ → Check

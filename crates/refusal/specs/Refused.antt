@@ -1,9 +1,9 @@
--- 01, 'What is turned down': the number and the detail of each case. Every contract that speaks of a refusal speaks through these.
+-- 01, 'What is turned down', and the numbers of 02: the number and the detail of each case. Every contract that speaks of a refusal speaks through these.
 use mathlib.Core.Bool.{Bool, true, false}
 use Prim.Native.Nat.{ℕ, suc}
 use lib.IntN.{ℤ, pos, negsuc}
 use Rattle.refusal.specs.declared.Refusal.{Refusal}
-use Rattle.refusal.specs.declared.Refusal.the-variants.{Length, Subframe, LimitChoice, OpenLoopLag, Order, RelativeIndex, PulseLag, Exponent, Fraction, Positions, Signs, Kind, FeedEnd}
+use Rattle.refusal.specs.declared.Refusal.the-variants.{Length, Subframe, LimitChoice, OpenLoopLag, Order, RelativeIndex, PulseLag, Exponent, Positions, Signs, Kind, FeedEnd, Fraction}
 use Rattle.refusal.specs.declared.Detail.{Detail}
 
 -- the number of each case
@@ -16,11 +16,11 @@ number (Order n) = 4
 number (RelativeIndex n) = 5
 number (PulseLag n) = 6
 number (Exponent z) = 7
-number (Fraction n) = 7
 number (Positions n) = 8
 number (Signs n) = 8
 number (Kind n) = 9
 number (FeedEnd n) = 10
+number (Fraction n) = 14
 
 -- the detail of each case: what its field holds
 abbrev pub detail : Refusal → ℤ
@@ -32,11 +32,11 @@ detail (Order n) = pos n
 detail (RelativeIndex n) = pos n
 detail (PulseLag n) = pos n
 detail (Exponent z) = z
-detail (Fraction n) = pos n
 detail (Positions n) = pos n
 detail (Signs n) = pos n
 detail (Kind n) = pos n
 detail (FeedEnd n) = pos n
+detail (Fraction n) = pos n
 
 -- the detail as the struct that holds it
 abbrev pub sign-magnitude : ℤ → Detail

@@ -1,4 +1,4 @@
-// 01, 'What is turned down': one case for each thing that can be wrong, with its detail.
+// 01, 'What is turned down', and the numbers of 02: one case for each thing that can be wrong, with its detail.
 ghost use mathlib.Core.Path.{_≡_};
 ghost use lib.IntN.{pos};
 ghost use Rattle.refusal.specs.Refused.{number, detail, sign-magnitude};
@@ -17,9 +17,8 @@ pub enum Refusal {
     RelativeIndex(u8),
     // 6: the pulse stage's lag
     PulseLag(u16),
-    // 7: the exponent or the fraction of a power or of a prediction
+    // 7: the exponent of a power or of a prediction
     Exponent(i16),
-    Fraction(u16),
     // 8: a position word or a sign word
     Positions(u16),
     Signs(u16),
@@ -27,6 +26,8 @@ pub enum Refusal {
     Kind(u8),
     // 10: the body bytes present where a feed ends
     FeedEnd(usize),
+    // 14: the fraction of a power or of a prediction
+    Fraction(u16),
 }
 
 // A detail is a length, as large as a list can be, or a number that may be negative.
@@ -48,11 +49,11 @@ impl Refusal {
             Refusal::RelativeIndex(_) => 5,
             Refusal::PulseLag(_) => 6,
             Refusal::Exponent(_) => 7,
-            Refusal::Fraction(_) => 7,
             Refusal::Positions(_) => 8,
             Refusal::Signs(_) => 8,
             Refusal::Kind(_) => 9,
             Refusal::FeedEnd(_) => 10,
+            Refusal::Fraction(_) => 14,
         }
     }
 
@@ -68,11 +69,11 @@ impl Refusal {
             Refusal::RelativeIndex(n) => counted(n as u64),
             Refusal::PulseLag(n) => counted(n as u64),
             Refusal::Exponent(e) => signed(e),
-            Refusal::Fraction(n) => counted(n as u64),
             Refusal::Positions(n) => counted(n as u64),
             Refusal::Signs(n) => counted(n as u64),
             Refusal::Kind(n) => counted(n as u64),
             Refusal::FeedEnd(n) => counted(n as u64),
+            Refusal::Fraction(n) => counted(n as u64),
         }
     }
 }

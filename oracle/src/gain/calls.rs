@@ -8,7 +8,7 @@ use crate::{
     },
     feed::{self, Record, taken},
     project::{GainAnswer, PitchGainAnswer},
-    published::{PairDecoder, PairQuantizer},
+    published::{EXPONENT, FRACTION, PairDecoder, PairQuantizer},
     subframes::{Refusal, check_lengths},
     words::{SUBFRAME, shortened},
 };
@@ -16,7 +16,7 @@ use std::{fmt, ops::RangeInclusive};
 
 /// The exponents and the fractions that are not refused.
 pub const EXPONENTS: RangeInclusive<i16> = -128..=127;
-pub const FRACTIONS: RangeInclusive<u16> = 0..=32767;
+const FRACTIONS: RangeInclusive<u16> = 0..=32767;
 
 /// The lists of `pitch_gain`, and those of `quantize`.
 pub const PITCH_LISTS: usize = 2;
@@ -120,10 +120,10 @@ pub fn checked(
         _ => return refused(2, choice.into()),
     };
     if !EXPONENTS.contains(&exponent) {
-        return refused(7, exponent.into());
+        return refused(EXPONENT, exponent.into());
     }
     if !FRACTIONS.contains(&fraction) {
-        return refused(7, fraction.into());
+        return refused(FRACTION, fraction.into());
     }
     Ok(limit)
 }

@@ -1,9 +1,15 @@
-//! Calls that are refused, by the rule of 01. All lists have a value that would matter.
+//! Calls that are refused, by the rule of 01 and 02. All lists have a value that would matter.
 
-use super::calls::{
-    EXPONENTS, FRACTIONS, LISTS, PITCH_LISTS, answer, checked, checked_pitch, pitch_answer,
+use super::{
+    calls::{Call, EXPONENTS, LISTS, PITCH_LISTS, answer, checked, checked_pitch, pitch_answer},
+    sources::Drawn,
 };
-use crate::{compare::Line, project, words::SUBFRAME};
+use crate::{
+    compare::Line,
+    project,
+    published::{EXPONENT, FRACTION},
+    words::SUBFRAME,
+};
 
 /// Lengths of lists, of which some agree with the right one in their low byte or are those of two
 /// lists.
@@ -45,21 +51,19 @@ pub fn compare_pitch_gain() -> Vec<Line> {
 }
 
 pub fn compare_quantize() -> Vec<Line> {
-    [
+    let refused = [
         ("rule of 01 for the lengths", with_wrong_lengths()),
         ("rule of 01 for the limit choice", with_wrong_choices()),
         ("rule of 01 for the exponent", with_wrong_exponents()),
-        ("rule of 01 for the fraction", with_wrong_fractions()),
-    ]
-    .into_iter()
-    .map(|(with, calls)| {
+    ];
+    let refused = refused.into_iter().map(|(with, calls)| {
         let mut line = Line::new(with);
         for (index, call) in (0..).zip(&calls) {
             compare_refusal(&mut line, index, call);
         }
         line
-    })
-    .collect()
+    });
+    refused.chain(compare_fractions()).collect()
 }
 
 /// Good pairs and bad ones.
@@ -101,11 +105,48 @@ fn with_wrong_exponents() -> Vec<Refused> {
     with_pairs(exponents.flat_map(|exponent| SOME_FRACTIONS.map(|fraction| (exponent, fraction))))
 }
 
-/// Every wrong fraction, with good exponents.
-fn with_wrong_fractions() -> Vec<Refused> {
-    const SOME_EXPONENTS: [i16; 5] = [-128, -1, 0, 9, 127];
-    let fractions = (0..=u16::MAX).filter(|fraction| !FRACTIONS.contains(fraction));
-    with_pairs(fractions.flat_map(|fraction| SOME_EXPONENTS.map(|exponent| (exponent, fraction))))
+/// Every fraction, with exponents at both ends and beyond them and with both limits: the published
+/// row, or the refusal. The words are drawn anew for each fraction.
+fn compare_fractions() -> [Line; 2] {
+    const SOME_EXPONENTS: [i16; 5] = [-129, -128, 0, 127, 128];
+    let mut line = Line::new("gain/quantization.rs and rule of 02 for every fraction");
+    let [mut accepted, mut exponents, mut fractions] = [0; 3];
+    for fraction in 0..=u16::MAX {
+        let call = Drawn::at(fraction.into(), &[]).call;
+        for exponent in SOME_EXPONENTS {
+            for choice in [0, 1] {
+                let ours = project::quantize(call.lists(), exponent, fraction, choice);
+                let limit = checked([SUBFRAME; LISTS], exponent, fraction, choice);
+                let row = limit.map(|limit| {
+                    let call = Call {
+                        exponent,
+                        fraction,
+                        limit,
+                        ..call.clone()
+                    };
+                    call.quantize()
+                });
+                match row.map_err(|refusal| refusal.number) {
+                    Ok(_) => accepted += 1,
+                    Err(EXPONENT) => exponents += 1,
+                    Err(FRACTION) => fractions += 1,
+                    Err(number) => unreachable!("refused by {number}"),
+                }
+                let expected = answer(row);
+                line.compared += 1;
+                if ours != expected {
+                    let input = (exponent, fraction, choice);
+                    line.difference(fraction.into(), &input, &ours, &expected);
+                }
+            }
+        }
+    }
+    let cases = Line::of_cases([
+        ("accepted", accepted),
+        ("refused 7", exponents),
+        ("refused 14", fractions),
+    ]);
+    [line, cases]
 }
 
 /// These pairs with both limits.

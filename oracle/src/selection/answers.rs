@@ -44,6 +44,7 @@ cases! {
     Refused7 => "refused 7",
     Refused9 => "refused 9",
     Refused10 => "refused 10",
+    Refused14 => "refused 14",
 }
 
 impl Case {
@@ -61,6 +62,7 @@ impl Case {
                 7 => Self::Refused7,
                 9 => Self::Refused9,
                 10 => Self::Refused10,
+                14 => Self::Refused14,
                 number => panic!("a record refused by number {number}"),
             },
         }

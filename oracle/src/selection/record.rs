@@ -24,7 +24,7 @@ const SPEECH_RECORDS: usize = 300;
 const EXTREME: Feed = Feed {
     name: Name::Extreme,
     records: 160,
-    seed: 1,
+    seed: 2,
 };
 const TRUNCATED: Feed = Feed {
     name: Name::Truncated,
@@ -42,13 +42,14 @@ const UNKNOWN_KIND: Feed = Feed {
 /// How often each answer and each refusal of a kind must be there, but for the one that ends the
 /// feed.
 const LEAST: usize = 3;
-const REFUSALS: [(u8, u8); 9] = [
+const REFUSALS: [(u8, u8); 10] = [
     (2, 2),
     (2, 3),
     (2, 4),
     (3, 6),
     (4, 2),
     (4, 7),
+    (4, 14),
     (6, 2),
     (6, 4),
     (6, 5),

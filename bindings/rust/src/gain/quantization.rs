@@ -63,7 +63,7 @@ pub struct QuantizedRow {
 }
 
 /// TS 26.073 calc_filt_energies and Qua_gain for MR74: the lowest index of least distance within
-/// the limit. Refuses by 7 a prediction outside its range.
+/// the limit. Refuses by 7 a predicted exponent outside its range, then by 14 such a fraction.
 pub fn quantize(
     target: &[i16; SUBFRAME_SAMPLES],
     adaptive: &[i16; SUBFRAME_SAMPLES],

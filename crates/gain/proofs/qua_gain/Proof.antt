@@ -1,7 +1,7 @@
 use mir.Syntax.{w16}
 use mir.Facts.{toZ-ofZ}
 use Rattle.fixed.proofs.Bounds.{got}
-use Rattle.gain.specs.Rows.{weights, Qua-gain}
+use Rattle.gain.specs.Rows.{weights}
 use borrow.Author.Needs.{needs}
 use Rattle.gain.proofs.qua_gain.Statement.{statement}
 use Rattle.gain.proofs.qua_gain.Tie as tie
@@ -18,9 +18,6 @@ sub16-requires c κs = search needs
 coefficients-requires : tie.Need-coefficients-requires
 coefficients-requires c κs = search needs
 
-gcode0-requires : tie.Need-gcode0-requires
-gcode0-requires c κs = search needs
-
 nearest-row-requires : tie.Need-nearest-row-requires
 nearest-row-requires c κs = search needs
 
@@ -28,11 +25,10 @@ row-requires : tie.Need-row-requires
 row-requires c κs = search needs
 
 returns : tie.Need-returns
-unfolding Qua-gain weights
+unfolding weights
 returns c =
     let n = c .before in
-    let g = n .before in
-    let k = g .before .before in
+    let k = n .before .before in
     let s = k .before .before in
     let h = s .before in
     let y = h .before in
@@ -44,8 +40,8 @@ returns c =
       y .g-pitch .ensures,
       h .shifted40 .ensures,
       got w16 (s .sub16 .ok) (s .sub16 .ensures),
-      got w16 (g .gcode0 .ok) (g .gcode0 .ensures),
       toZ-ofZ (b .fits .exponent),
+      toZ-ofZ (b .fits .gcode0),
       toZ-ofZ (b .fits .limit-q14),
     )
 
@@ -57,7 +53,6 @@ qua-gain-spec =
     shifted40-requires
     sub16-requires
     coefficients-requires
-    gcode0-requires
     nearest-row-requires
     row-requires
     returns)

@@ -101,14 +101,14 @@ counted-requires-10 c κs = tt
 enum-known-self-12 : tie.Need-enum-known-self-12
 enum-known-self-12 c = search needs
 
-cast-counted-10 : tie.Need-cast-counted-10
-cast-counted-10 c = search needs
-
 counted-requires-11 : tie.Need-counted-requires-11
 counted-requires-11 c κs = tt
 
 enum-known-self-13 : tie.Need-enum-known-self-13
 enum-known-self-13 c = search needs
+
+cast-counted-10 : tie.Need-cast-counted-10
+cast-counted-10 c = search needs
 
 counted-requires-12 : tie.Need-counted-requires-12
 counted-requires-12 c κs = tt
@@ -190,9 +190,9 @@ detail-spec =
     cast-counted-9
     counted-requires-10
     enum-known-self-12
-    cast-counted-10
     counted-requires-11
     enum-known-self-13
+    cast-counted-10
     counted-requires-12
     returns
     returns-2
