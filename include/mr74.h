@@ -22,7 +22,8 @@
  *        4  the subframe is not the one expected next                         the expected one
  *        5  a relative pitch index is above 31                                the index
  *        6  the pulse stage's lag is outside 19 to 144                        the lag
- *        7  an exponent is outside its range                                  the exponent
+ *        7  the exponent of a power is above 30, or a predicted exponent is
+ *           outside -128 to 127                                               the exponent
  *        8  a position word is above 8191, or a sign word above 15            the first such word
  *        9  a feed record has a kind above 6                                  the kind
  *       10  a feed ends inside a record's body                                the body bytes present
