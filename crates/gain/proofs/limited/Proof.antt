@@ -17,9 +17,9 @@ use Rattle.gain.proofs.limited.Statement.{statement}
 use Rattle.gain.proofs.limited.Tie as tie
 
 -- the exponent of the power is good, so that its fraction alone is checked
-by-fraction : (fraction : ℕ) → Pow2 14 fraction ≡ checked (power-fraction fraction ∷ []) refused (values (pos (power 14 fraction)))
+exponent-passes : (fraction : ℕ) → Pow2 14 fraction ≡ checked (power-fraction fraction ∷ []) refused (values (pos (power 14 fraction)))
 unfolding Pow2
-by-fraction fraction = refl
+exponent-passes fraction = refl
 
 returns : tie.Need-returns
 returns c =
@@ -69,7 +69,7 @@ returns-3 c =
     let f = toZ-ofZ (i1 .before .fits .exponent) in
     let low = le-not-lt (a .exponent) (negsuc 127) false (rw f at (i1 .if1 .left)) in
     let high = le-not-lt (pos 127) (a .exponent) false (rw f at (i2 .if2 .left)) in
-    let told = ap told (sym (v .power .given .1)) ∙ q .pow2 .ensures ∙ by-fraction (a .fraction) in
+    let told = ap told (sym (v .power .given .1)) ∙ q .pow2 .ensures ∙ exponent-passes (a .fraction) in
     let good = accepted-alone (power-fraction (a .fraction)) (pos (power 14 (a .fraction))) (v .power .given .0 .0) told in
     rw (
       low,
@@ -92,7 +92,7 @@ returns-4 c =
     let f = toZ-ofZ (i1 .before .fits .exponent) in
     let low = le-not-lt (a .exponent) (negsuc 127) false (rw f at (i1 .if1 .left)) in
     let high = le-not-lt (pos 127) (a .exponent) false (rw f at (i2 .if2 .left)) in
-    let told = ap told (sym (r .refusal .given .1)) ∙ q .pow2 .ensures ∙ by-fraction (a .fraction) in
+    let told = ap told (sym (r .refusal .given .1)) ∙ q .pow2 .ensures ∙ exponent-passes (a .fraction) in
     rw (low, high) (refused-alone (power-fraction (a .fraction)) (pos (power 14 (a .fraction))) _ (r .refusal .given .0 .0) told)
 
 pub limited-spec : {M : Type 1} → statement M
