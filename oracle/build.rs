@@ -157,6 +157,7 @@ const REPLACED: &[(&str, &str, &str, usize)] = &[
     ("pitch.rs", "    fraction: Fraction,", "    pub fraction: Fraction,", 1),
     ("pitch.rs", "    samples: u16,", "    pub samples: u16,", 1),
     ("pitch/open_loop.rs", "    history_q0: [i16;", "    pub history_q0: [i16;", 1),
+    ("pitch/open_loop.rs", "const HALF_FRAME_SAMPLES:", "pub const HALF_FRAME_SAMPLES:", 1),
     ("pitch/open_loop.rs", "const HISTORY_SAMPLES:", "pub const HISTORY_SAMPLES:", 1),
     ("pitch/open_loop.rs", "const LOW_ENERGY_LIMIT:", "pub const LOW_ENERGY_LIMIT:", 1),
     ("pitch/open_loop.rs", "const MINIMUM_LAG:", "pub const MINIMUM_LAG:", 1),
@@ -212,8 +213,8 @@ const EXPRESSIONS: &[Expression] = &[
 }
 ",
     },
-    // All of `quantize` before it decodes. Its `self.decoder` is one that predicts the pair which it
-    // is given, so the text stays as it is.
+    // All of `quantize` before it decodes: the row and its distance. Its `self.decoder` is one that
+    // predicts the pair which it is given, so the text stays as it is.
     Expression {
         file: "gain/quantization.rs",
         start: ") -> QuantizedGain {",
@@ -235,11 +236,11 @@ impl PairQuantizer {
         adaptive: &[i16; 40],
         filtered_innovation_q12: &[i16; 40],
         limit: codec::mr74::gain::quantization::GainLimit,
-    ) -> u16 {
+    ) -> (u16, i32) {
         use codec::mr74::{gain::{TABLE, quantization::*}, logarithm};
         let innovation_q13 = ();
         EXPRESSION
-        index
+        (index, minimum)
     }
 }
 ",
@@ -288,6 +289,26 @@ impl PairQuantizer {
         function: "pub fn open_loop_correlation(input: &[i16; 223]) -> [i32; 144] {
     use codec::mr74::pitch::open_loop::{HISTORY_SAMPLES, MINIMUM_LAG, product};
     EXPRESSION})
+}
+",
+    },
+    // All of `candidate` but the cut to 16 bits.
+    Expression {
+        file: "pitch/open_loop.rs",
+        start: ") -> (usize, i16) {",
+        end: " as i16)",
+        occurrences: 1,
+        function: "pub fn open_loop_candidate(
+    input: &[i16; 223],
+    correlation: &[i32; 144],
+    minimum: usize,
+    maximum: usize,
+) -> (usize, i32) {
+    use codec::mr74::{
+        energy::inverse_sqrt,
+        pitch::open_loop::{HALF_FRAME_SAMPLES, HISTORY_SAMPLES, multiply, product},
+    };
+    EXPRESSION)
 }
 ",
     },

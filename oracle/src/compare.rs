@@ -69,7 +69,7 @@ impl Line {
         let mut line = Self::new("cases that must occur");
         for (case, count) in counts {
             let never = if count == 0 { ": never met" } else { "" };
-            line.show_count(count, &format!("{case}{never}"));
+            line.show_number(count, &format!("{case}{never}"));
             line.compared += 1;
             line.differ += u64::from(count == 0);
         }
@@ -80,14 +80,15 @@ impl Line {
     pub fn of_counts(counts: impl IntoIterator<Item = (&'static str, u64)>) -> Self {
         let mut line = Self::new("cases that are only counted");
         for (case, count) in counts {
-            line.show_count(count, case);
+            line.show_number(count, case);
         }
         line
     }
 
-    fn show_count(&mut self, count: u64, case: &str) {
+    /// A number, and what it is of.
+    pub fn show_number(&mut self, number: impl fmt::Display, text: &str) {
         let place = self.shown.len() as u64;
-        self.shown.push((place, format!("{count:>9} {case}")));
+        self.shown.push((place, format!("{number:>9} {text}")));
     }
 
     #[cold]

@@ -2,6 +2,7 @@
 
 mod cases;
 mod chains;
+mod longs;
 mod pushes;
 pub mod record;
 
@@ -18,6 +19,7 @@ use crate::{
     words::shortened,
 };
 use cases::{Case, Pushed};
+use longs::Longs;
 use pushes::{Push, Step, step};
 use std::fmt;
 
@@ -25,7 +27,9 @@ use std::fmt;
 pub const HALF_FRAME: usize = 80;
 pub const HISTORY: usize = 143;
 
+/// The chains of any source, and those made for the greatest longs, which come after them.
 const CHAINS: u64 = 24_000;
+const GREATEST_CHAINS: u64 = 400;
 /// One more than the greatest lag.
 const LAGS: usize = HISTORY + 1;
 const LEAST_LAG: usize = 20;
@@ -37,10 +41,12 @@ pub fn functions() -> [Function; 1] {
     }]
 }
 
-/// What was compared, which cases were met, and how often each lag was answered.
+/// What was compared, the sections' longs, which cases were met, and how often each lag was
+/// answered.
 struct Tally {
     answers: Line,
     histories: Line,
+    longs: Longs,
     cases: Cases<Case>,
     lags: [u64; LAGS],
 }
@@ -50,6 +56,7 @@ impl Tally {
         Self {
             answers: Line::new("pitch/open_loop.rs, answers"),
             histories: Line::new("pitch/open_loop.rs, histories after"),
+            longs: Longs::new(),
             cases: Cases::new(),
             lags: [0; LAGS],
         }
@@ -58,6 +65,7 @@ impl Tally {
     fn add(&mut self, part: Tally) {
         self.answers.add(part.answers);
         self.histories.add(part.histories);
+        self.longs.add(part.longs);
         self.cases.add(part.cases);
         for (count, part) in self.lags.iter_mut().zip(part.lags) {
             *count += part;
@@ -70,7 +78,13 @@ impl Tally {
         let least = *least.expect("a lag");
         let mut cases = self.cases.counts(|case| with_feed || !case.needs_feed());
         cases.push(("answer of the lag that is answered least often", least));
-        vec![self.answers, self.histories, Line::of_cases(cases)]
+        cases.extend(self.longs.cases());
+        vec![
+            self.answers,
+            self.histories,
+            self.longs.line(),
+            Line::of_cases(cases),
+        ]
     }
 
     /// Compares the answer and then the history after the step. Where the histories differ the
@@ -93,7 +107,7 @@ impl Tally {
                 let before = push.history(ours);
                 let mut lent = Lent::new(&before);
                 let answer = project::open_loop(&push.samples, lent.words());
-                let expected = self.expected(place.case, detector, push);
+                let expected = self.expected(place, detector, push);
                 self.answers.compared += 1;
                 if answer != expected {
                     self.answers
@@ -114,9 +128,14 @@ impl Tally {
         *ours = detector.history_q0;
     }
 
-    /// The published answer in the form of the library's. Its cases are counted, `case` with them
-    /// if the push is accepted.
-    fn expected(&mut self, case: Case, detector: &mut Detector, push: &Push) -> OpenLoopAnswer {
+    /// The published answer in the form of the library's. Its cases are counted, that of the place
+    /// with them if the push is accepted, and its longs checked.
+    fn expected(
+        &mut self,
+        place: &Place<'_>,
+        detector: &mut Detector,
+        push: &Push,
+    ) -> OpenLoopAnswer {
         let before = detector.history_q0;
         match push.accepted() {
             Ok(samples) => {
@@ -126,8 +145,10 @@ impl Tally {
                     samples,
                     lag,
                 };
-                self.cases.count(case);
-                self.cases.count_found(&pushed.cases());
+                let cases = pushed.cases();
+                self.cases.count(place.case);
+                self.cases.count_found(&cases.found);
+                self.longs.check(place, cases.longs);
                 self.lags[usize::from(lag)] += 1;
                 answer(Ok(lag))
             }
@@ -158,7 +179,7 @@ fn answer(answer: Result<u16, Refusal>) -> OpenLoopAnswer {
 fn compare_chains() -> Vec<Line> {
     let feed = feed::steps("half frames", step, |step| matches!(step, Step::Push(_)));
     let mut tally = Tally::new();
-    let parts = in_threads(CHAINS, Tally::new, |tally, chains| {
+    let parts = in_threads(CHAINS + GREATEST_CHAINS, Tally::new, |tally, chains| {
         for index in chains {
             compare_chain(tally, index, &feed);
         }
@@ -194,7 +215,11 @@ impl fmt::Debug for Place<'_> {
 }
 
 fn compare_chain(tally: &mut Tally, index: u64, feed: &[Step]) {
-    let mut chain = Chain::at(index, feed);
+    let mut chain = if index < CHAINS {
+        Chain::at(index, feed)
+    } else {
+        Chain::greatest(index)
+    };
     let mut detector = Detector::default();
     let mut ours = [0; HISTORY];
     let mut number = 0;

@@ -3,8 +3,9 @@
 
 // Declares `codec`, and as functions the division inside `pitch_gain`, `pitch_gain_ratio`, the
 // gain row's `quantize` with a given prediction, of `PairQuantizer`, the sums inside
-// `normalized_correlation`, `energy40` and `dot40`, and the steps inside the detector's `push`,
-// `open_loop_scaled` and `open_loop_correlation`.
+// `normalized_correlation`, `energy40` and `dot40`, the steps inside the detector's `push`,
+// `open_loop_scaled` and `open_loop_correlation`, and its `candidate` before the cut to 16 bits,
+// `open_loop_candidate`.
 include!(concat!(env!("OUT_DIR"), "/published.rs"));
 
 use crate::subframes::Refusal;

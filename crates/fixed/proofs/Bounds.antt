@@ -13,7 +13,7 @@ use mir.Val.{SFits, hbits, toZ, ofZ}
 use mir.Facts.{toZ-ofZ, sfits-widen}
 use borrow.Author.Needs.{sfits-of}
 
-mag-abs : (z : ℤ) → mag z ≤ natAbs z
+pub mag-abs : (z : ℤ) → mag z ≤ natAbs z
 mag-abs (pos n) = le-refl n
 mag-abs (negsuc n) = omega arith
 

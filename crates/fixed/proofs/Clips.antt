@@ -4,7 +4,7 @@ use mathlib.Core.Bool.{Bool, true, false, _&&_}
 use Prim.Native.Nat.{ℕ, _-_, _^_, _<_, _≤_, min}
 use native.Mathlib.Omega.{arith}
 use lib.Dec.{T, leb→le, le→leb}
-use lib.IntN.{ℤ, pos, negsuc}
+use lib.IntN.{ℤ, pos, negsuc, natAbs}
 use lib.Pow.{pow-pos, pow-mono}
 use lib.Signed.{mag, ltZ, leZ, _≤ℤ_}
 use mir.Syntax.{Width}
@@ -17,6 +17,11 @@ use Rattle.fixed.specs.Clip.{clip}
 pub clip-fits : (k : ℕ) (z : ℤ) → mag (clip k z) < 2 ^ k
 clip-fits k (pos n) = omega (arith, pow-pos k)
 clip-fits k (negsuc n) = omega (arith, pow-pos k)
+
+-- no farther from 0
+pub abs-clip : (k : ℕ) (z : ℤ) → natAbs (clip k z) ≤ natAbs z
+abs-clip k (pos n) = omega arith
+abs-clip k (negsuc n) = omega arith
 
 -- the identity inside the range
 pub clip-id : (k : ℕ) (z : ℤ) → mag z < 2 ^ k → clip k z ≡ z

@@ -10,3 +10,5 @@ pub mod Lists
 pub mod Choices
 pub mod Products
 pub mod LowBits
+pub mod Sums
+pub mod ByHalves

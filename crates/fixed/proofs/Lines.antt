@@ -12,7 +12,7 @@ use Rattle.fixed.specs.Clip.{clip}
 use Rattle.fixed.specs.Line.{way, line}
 use Rattle.fixed.specs.Operators.{sub, L-sub, L-mult, L-msu, L-deposit-h}
 use Rattle.fixed.proofs.Clips.{clip-id}
-use Rattle.fixed.proofs.Signs.{pos-sub, sub-above, mag-neg}
+use Rattle.fixed.proofs.Signs.{pos-sub, sub-above, mag-neg, double-neg}
 
 mean : (k a b v w : ℕ) → a ≤ k → b ≤ k → a * v + b * w ≤ k * (v + w)
 mean k a b v w f g = omega (arith, mul-le-mul-right {m = a} {n = k} v f, mul-le-mul-right {m = b} {n = k} w g)
@@ -37,10 +37,6 @@ module _ (a b d v w : ℕ) (whole : v + w ≡ 32768) where
   rises e =
       let h : b * w ≡ a * w + d * w = ap (λ (n : ℕ). n * w) e ∙ omega arith in
       ap (λ (z : ℤ). pos (a * 65536) +ℤ z) (negℤ-negℤ (pos (2 * (d * w)))) ∙ ap pos (omega (arith, parts))
-
-double-neg : (x : ℕ) → pos 2 *ℤ negℤ (pos x) ≡ negℤ (pos (2 * x))
-double-neg zero = refl
-double-neg (suc x) = refl
 
 -- TS 26.073: L_msu (L_deposit_h (from), sub (from, to), way). Nothing is clipped, so it is the point of the line
 pub line-standard : (a b m : ℕ) → a ≤ 32767 → b ≤ 32767 → L-msu (L-deposit-h (pos a)) (sub (pos a) (pos b)) (pos (way m)) ≡ pos (line a b m)

@@ -2,7 +2,7 @@
 use mathlib.Core.Path.{_≡_, refl, sym, ap, _∙_}
 use mathlib.Core.Bool.{Bool, true, false, not}
 use Prim.Native.Nat.{ℕ, zero, suc, _+_, _-_, _*_, _/_, _%_, _^_, _<_, _≤_}
-use native.Mathlib.Nat.{div-add-mod', mod-lt}
+use native.Mathlib.Nat.{div-add-mod', mod-lt, mod-eq-of-lt}
 use native.Mathlib.Omega.{arith}
 use lib.Dec.{T, ltb, leb}
 use lib.IntN.{ℤ, pos, negsuc, negℤ, natAbs, subℕ, negℤ-negℤ, _+ℤ_, _-ℤ_, _*ℤ_}
@@ -12,7 +12,7 @@ use mir.Val.{SFits, Fits, hbits}
 use mir.ValLaws.{half-full}
 use borrow.Author.Tests.{ltb-true, ltb-false, le-ltb, lt-ltb, le-leb, lt-leb}
 use Rattle.fixed.specs.Clip.{clip}
-use Rattle.fixed.specs.Operators.{remainder, positive-or}
+use Rattle.fixed.specs.Operators.{remainder, extract-l, positive-or}
 use Rattle.fixed.proofs.Bounds.{either, ok}
 use Rattle.fixed.proofs.Clips.{contradiction, clip-id}
 
@@ -34,6 +34,10 @@ mag-neg (suc n) = omega arith
 
 pub neg-pos : (m k : ℕ) → m ≡ suc k → negℤ (pos m) ≡ negsuc k
 neg-pos m k e = rw e
+
+pub double-neg : (n : ℕ) → pos 2 *ℤ negℤ (pos n) ≡ negℤ (pos (2 * n))
+double-neg zero = refl
+double-neg (suc n) = refl
 
 -- ---- the sign: z is -(mag z + 1) below 0, and mag z else
 pub neg-is : (z : ℤ) → ltZ z (pos 0) ≡ true → z ≡ negsuc (mag z)
@@ -88,6 +92,18 @@ low-rest z = rw (← (shr-half z)) (floor-rest 32768 (shrZ z 2) (omega arith))
 -- a number below 65536, less 32768, is a word
 pub centred : (r : ℕ) → r < 65536 → SFits w16 (pos r -ℤ pos 32768)
 centred r h = either (SFits w16) (ltb r 32768) (negsuc (32768 - suc r)) (pos (r - 32768)) (ok w16 _ (omega arith)) (ok w16 _ (omega arith))
+
+-- and a word is its own low 16 bits
+pub low-id : (z : ℤ) → mag z < 2 ^ 15 → extract-l z ≡ z
+unfolding extract-l
+low-id (pos n) h =
+    let e : (n + 32768) % 65536 ≡ n + 32768 = mod-eq-of-lt (omega arith) in
+    rw e (sub-le (n + 32768) 32768 (omega arith) ∙ ap pos (omega arith))
+low-id (negsuc n) h =
+    let e : (32768 - suc n) % 65536 ≡ 32768 - suc n = mod-eq-of-lt (omega arith) in
+    ap (λ (y : ℤ). pos (remainder y 65536) -ℤ pos 32768) (sub-le 32768 (suc n) (omega arith))
+    ∙ ap (λ (m : ℕ). pos m -ℤ pos 32768) e
+    ∙ sub-above (32768 - suc n) 32768 (omega arith) ∙ ap negsuc (omega arith)
 
 -- twice the floor of a half fits where the number did
 pub even-fits : (w : Width) (z : ℤ) → 0 < hbits w → SFits w z → SFits w (shrZ z 2 *ℤ pos 2)

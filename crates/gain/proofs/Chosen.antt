@@ -24,11 +24,10 @@ module _ (xs ys zs : List ℤ) (exponent : ℤ) (fraction choice : ℕ) where
   unfolding Qua-gain
   chosen-row = nearest-is (weights xs ys zs exponent) (gcode0 fraction) (gp-limit choice) (first-allowed choice)
 
--- with the resonance limit it is one of rows 0 to 95
+-- within the resonance limit are rows 0 to 95
+pub in-resonance : (i : ℕ) → i < 128 → within-limit (gp-limit 1) i ≡ true → i < 96
+in-resonance i h w = ltb-true i 96 (rw (rule i h .pitch-limit) at w)
+
+-- so the row chosen there is one of these
 pub resonance-row : (xs ys zs : List ℤ) (exponent : ℤ) (fraction : ℕ) → Qua-gain xs ys zs exponent fraction (gp-limit 1) .index < 96
-resonance-row xs ys zs exponent fraction =
-    let L = chosen-row xs ys zs exponent fraction 1 in
-    let i = Qua-gain xs ys zs exponent fraction (gp-limit 1) .index in
-    let r = rule i (L .row) in
-    let e : ltb i 96 ≡ true = rw (r .pitch-limit) at (L .allowed) in
-    ltb-true i 96 e
+resonance-row xs ys zs exponent fraction = let L = chosen-row xs ys zs exponent fraction 1 in in-resonance _ (L .row) (L .allowed)

@@ -8,18 +8,18 @@ use native.Mathlib.Omega.{arith}
 use lib.Dec.{leb}
 use lib.IntN.{ℤ, pos}
 use Rattle.refusal.specs.Refused.{refused}
-use Rattle.refusal.specs.Checks.{Check, length-is, known-limit, predicted-exponent, power-fraction}
+use Rattle.refusal.specs.Checks.{Check, predicted-exponent, power-fraction}
 use Rattle.refusal.proofs.Checkings.{Given-by, given-by}
 use Rattle.refusal.proofs.Pairs.{by-exponent, by-fraction}
 use Rattle.gain_limit.specs.Limits.{gp-limit}
-use Rattle.gain.specs.Rows.{Qua-gain, quantize}
+use Rattle.gain.specs.Rows.{Qua-gain, gain-checks, quantize}
 
 module _ (xs ys zs : List ℤ) (exponent : ℤ) (fraction choice : ℕ) (d : ℤ) where
   abbrev pair : List Check
   pair = predicted-exponent exponent ∷ power-fraction fraction ∷ []
 
   -- the checks before the pair's have the numbers 1 and 2
-  behind : (n : ℕ) → 2 < n → Given-by (length-is 40 xs ∷ length-is 40 ys ∷ length-is 40 zs ∷ known-limit choice ∷ pair) n d → Given-by pair n d
+  behind : (n : ℕ) → 2 < n → Given-by (gain-checks xs ys zs exponent fraction choice) n d → Given-by pair n d
   behind n h (inl (bad, e, same)) = absurd (omega (arith, e, h))
   behind n h (inr (good, inl (bad, e, same))) = absurd (omega (arith, e, h))
   behind n h (inr (good, inr (good₂, inl (bad, e, same)))) = absurd (omega (arith, e, h))
@@ -29,10 +29,7 @@ module _ (xs ys zs : List ℤ) (exponent : ℤ) (fraction choice : ℕ) (d : ℤ
   given : (n : ℕ) → 2 < n → quantize xs ys zs exponent fraction choice ≡ refused n d → Given-by pair n d
   unfolding quantize
   given n h e =
-      behind n h
-      (given-by (Qua-gain xs ys zs exponent fraction (gp-limit choice)) n d
-      (length-is 40 xs ∷ length-is 40 ys ∷ length-is 40 zs ∷ known-limit choice ∷ pair)
-      e)
+      behind n h (given-by (Qua-gain xs ys zs exponent fraction (gp-limit choice)) n d (gain-checks xs ys zs exponent fraction choice) e)
 
   pub refused-by-7 : quantize xs ys zs exponent fraction choice ≡ refused 7 d → (predicted-exponent exponent .passes ≡ false) × (exponent ≡ d)
   refused-by-7 e = by-exponent (predicted-exponent exponent) refl fraction d (given 7 (omega arith) e)

@@ -1,3 +1,4 @@
 -- What the contracts of `gain` cite.
 pub mod Rows
+pub mod Statement
 pub mod Opens

@@ -5,7 +5,7 @@ use lib.IntN.{ℤ, pos, negsuc}
 use Rattle.fixed.specs.Operators.{sub, extract-l}
 use Rattle.fixed.specs.Lists.{shifted}
 use Rattle.refusal.specs.Refused.{Told, values, refused, turned-down}
-use Rattle.refusal.specs.Checks.{checked, length-is, known-limit, predicted-exponent, power-fraction}
+use Rattle.refusal.specs.Checks.{Check, checked, length-is, known-limit, predicted-exponent, power-fraction}
 use Rattle.logarithm.specs.Powers.{power}
 use Rattle.gain_table.specs.Rows.{row}
 use Rattle.gain_pitch.specs.Gains.{G-pitch}
@@ -42,9 +42,12 @@ abbrev pub limited : List ℤ → List ℤ → List ℤ → ℤ → ℕ → ℕ 
 limited xs ys zs exponent fraction choice =
     checked (predicted-exponent exponent ∷ power-fraction fraction ∷ []) refused (values (Qua-gain xs ys zs exponent fraction (gp-limit choice)))
 
--- `quantize`: 01, numbers 1, 2 and 7, then 02, number 14, in that order
+-- 01, numbers 1, 2 and 7, then 02, number 14, in that order
+abbrev pub gain-checks : List ℤ → List ℤ → List ℤ → ℤ → ℕ → ℕ → List Check
+gain-checks xs ys zs exponent fraction choice =
+    length-is 40 xs ∷ length-is 40 ys ∷ length-is 40 zs ∷ known-limit choice ∷ predicted-exponent exponent ∷ power-fraction fraction ∷ []
+
+-- `quantize`
 unfoldable pub quantize : List ℤ → List ℤ → List ℤ → ℤ → ℕ → ℕ → Told QuantizedGain
 quantize xs ys zs exponent fraction choice =
-    checked
-    (length-is 40 xs ∷ length-is 40 ys ∷ length-is 40 zs ∷ known-limit choice ∷ predicted-exponent exponent ∷ power-fraction fraction ∷ [])
-    refused (values (Qua-gain xs ys zs exponent fraction (gp-limit choice)))
+    checked (gain-checks xs ys zs exponent fraction choice) refused (values (Qua-gain xs ys zs exponent fraction (gp-limit choice)))

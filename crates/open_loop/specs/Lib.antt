@@ -1,3 +1,4 @@
 -- The open-loop lag detector, TS 26.073 Pitch_ol at 7.4 kbit/s: what the contracts of `open_loop` cite.
 pub mod Detectors
+pub mod Statement
 pub mod Opens

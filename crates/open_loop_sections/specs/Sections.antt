@@ -22,9 +22,13 @@ scaled-all xs = tabulate (λ k. scaled (products xs 0 0 223) (at xs k)) 223
 unfoldable pub delayed-energy : List ℤ → ℕ → ℤ
 delayed-energy xs lag = products xs (143 - lag) (143 - lag) 80
 
--- Lag_max, 'max = max/sqrt(energy)'; 01: 'A section's value is the low 16 bits, read as signed, of the long product'
+-- Lag_max, 'max = max/sqrt(energy)'; 02, request 14: 'the long before the cut'
+unfoldable pub long-at : List ℤ → ℕ → ℤ
+long-at xs lag = Mpy-32 (correlation xs lag) (Inv-sqrt (delayed-energy xs lag))
+
+-- and the cut; 01: 'A section's value is the low 16 bits, read as signed, of the long product'
 unfoldable pub value-at : List ℤ → ℕ → ℤ
-value-at xs lag = extract-l (Mpy-32 (correlation xs lag) (Inv-sqrt (delayed-energy xs lag)))
+value-at xs lag = extract-l (long-at xs lag)
 
 -- a lag with its value
 abbrev pub held-at : List ℤ → ℕ → Held

@@ -20,11 +20,24 @@ abbrev pub value-or : {A : Type 0} → A → Told A → A
 value-or a (values b) = b
 value-or a (refused n d) = a
 
+-- all pass: what is accepted
+pub passed-all : {A : Type 0} (refuse : ℕ → ℤ → A) (a : A) (cs : List Check) → Passes cs → checked cs refuse a ≡ a
+passed-all refuse a [] p = refl
+passed-all refuse a (c ∷ cs) (h, p) = rw h (passed-all refuse a cs p)
+
+-- values were told: all pass, and they are those
+pub accepted-all : {A : Type 0} (v w : A) (cs : List Check) → checked cs refused (values v) ≡ values w → Passes cs × (v ≡ w)
+accepted-all v w [] e = (tt, cc)
+accepted-all v w (c ∷ cs) e = go (c .passes) refl (accepted-all v w cs)
+  where
+    go : (t : Bool) → c .passes ≡ t → (checked cs refused (values v) ≡ values w → Passes cs × (v ≡ w)) → Passes (c ∷ cs) × (v ≡ w)
+    go true q rest = let r = rest (rw q at e) in ((q, r .0), r .1)
+    go false q rest = let f : refused (c .number) (c .detail) ≡ values w = rw q at e in let z : _≡_ {A = ℕ} 0 1 = cc in absurd (omega arith)
+
 module _ {A S : Type 0} (s : S) (a : Outcome A S) where
   -- all pass: what is accepted
   pub passed : (cs : List Check) → Passes cs → unless-refused cs s a ≡ a
-  passed [] p = refl
-  passed (c ∷ cs) (h, p) = rw h (passed cs p)
+  passed cs p = passed-all (λ n d. record { answer = refused n d; after = s }) a cs p
 
   -- an answer with values: all pass
   pub passes : (cs : List Check) → accepts (unless-refused cs s a .answer) ≡ true → Passes cs
@@ -54,11 +67,7 @@ module _ {A S : Type 0} (s : S) (a : Outcome A S) where
 -- one check by itself, for an entry that hands on what a callee told: where it accepted, the check passes and the values are its own
 module _ {A : Type 0} (c : Check) (v : A) where
   pub accepted-alone : (w : A) → values w ≡ checked (c ∷ []) refused (values v) → (c .passes ≡ true) × (w ≡ v)
-  accepted-alone w e = go (c .passes) refl
-    where
-      go : (t : Bool) → c .passes ≡ t → (c .passes ≡ true) × (w ≡ v)
-      go true q = let f : values w ≡ values v = rw q at e in (q, cc)
-      go false q = let f : values w ≡ refused (c .number) (c .detail) = rw q at e in let z : _≡_ {A = ℕ} 0 1 = cc in absurd (omega arith)
+  accepted-alone w e = let r = accepted-all v w (c ∷ []) (sym e) in (r .0 .0, sym (r .1))
 
   -- where it refused, so does a list that begins with the check, whatever follows it
   pub refused-alone : {B : Type 0} (rest : Told B) (r : Refusal) →

@@ -4,7 +4,7 @@ use mathlib.Core.Path.{_≡_, refl, subst}
 use mathlib.Core.Bool.{Bool, true, false}
 use mathlib.Core.List.{List}
 use Prim.Native.Nat.{ℕ, zero, suc, _+_, _-_, _*_, _^_, _<_, _≤_, min}
-use native.Mathlib.Nat.{add-zero, add-suc}
+use native.Mathlib.Nat.{add-zero, add-suc, mul-le-mul}
 use native.Mathlib.Omega.{arith}
 use lib.Dec.{leb}
 use lib.IntN.{ℤ, pos, natAbs, _+ℤ_, _*ℤ_, +ℤ-idr}
@@ -13,7 +13,7 @@ use borrow.Author.Tests.{ltb-true, leb-true, leb-false}
 use Rattle.fixed.specs.Operators.{L-add, L-mult}
 use Rattle.fixed.specs.Lists.{at, L-sum, dot}
 use Rattle.fixed.proofs.Bounds.{abs-add, abs-mul}
-use Rattle.sums.specs.Plain.{squared, plain}
+use Rattle.sums.specs.Plain.{squared, plain, weighed}
 use Rattle.sums.proofs.Plain.{double-add, unclipped, plain-mult}
 use Rattle.sums.proofs.Sums.{squares, energy-is}
 
@@ -22,7 +22,7 @@ use Rattle.sums.proofs.Sums.{squares, energy-is}
 mean-more : (a d : ℕ) → 2 * (a * (a + d)) ≤ a * a + (a + d) * (a + d)
 mean-more a d = omega arith
 
-mean : (a b : ℕ) → 2 * (a * b) ≤ a * a + b * b
+pub mean : (a b : ℕ) → 2 * (a * b) ≤ a * a + b * b
 mean a b = go (leb a b) refl
   where
     go : (t : Bool) → leb a b ≡ t → 2 * (a * b) ≤ a * a + b * b
@@ -46,6 +46,12 @@ module _ (x y : ℕ → ℤ) where
       let b = abs-mul (x n) (y n) in
       let m = mean (natAbs (x n)) (natAbs (y n)) in
       omega arith
+
+  -- the magnitudes of the products, one list weighed by q and the other by r
+  pub weighed-mean : (q r n : ℕ) → 2 * (q * r * weighed x y n) ≤ q * q * squared x n + r * r * squared y n
+  unfolding weighed squared
+  weighed-mean q r zero = omega arith
+  weighed-mean q r (suc n) = omega (arith, weighed-mean q r n, mean (q * natAbs (x n)) (r * natAbs (y n)))
 
   -- two quiet lists, whose squares sum to less than 2 ^ 31: the clipped sum is the plain one
   pub quiet : (n : ℕ) → squared x n + squared y n < 2 ^ 31 → L-sum (pos 0) (λ k. L-mult (x k) (y k)) n ≡ pos 2 *ℤ plain x y n
@@ -77,6 +83,19 @@ module _ (x : ℕ → ℤ) where
       let e : from + n + (m - (from + n)) ≡ m = omega arith in
       let l = subst (λ (k : ℕ). squared x (from + n) ≤ squared x k) e (squared-more (from + n) (m - (from + n))) in
       omega (arith, squared-from from n)
+
+-- terms of at most m times the others' magnitudes, and of at most b
+pub squared-le : (x y : ℕ → ℤ) (m n : ℕ) → ((k : ℕ) → k < n → natAbs (x k) ≤ m * natAbs (y k)) → squared x n ≤ m * m * squared y n
+unfolding squared
+squared-le x y m zero h = omega arith
+squared-le x y m (suc n) h =
+    omega (arith, squared-le x y m n (λ k l. h k (omega arith)), mul-le-mul (h n (omega arith)) (h n (omega arith)))
+
+pub squared-below : (x : ℕ → ℤ) (b n : ℕ) → ((k : ℕ) → k < n → natAbs (x k) ≤ b) → squared x n ≤ n * (b * b)
+unfolding squared
+squared-below x b zero h = omega arith
+squared-below x b (suc n) h =
+    omega (arith, squared-below x b n (λ k l. h k (omega arith)), mul-le-mul (h n (omega arith)) (h n (omega arith)))
 
 -- terms that are equal
 pub squared-same : (x y : ℕ → ℤ) (n : ℕ) → ((k : ℕ) → k < n → x k ≡ y k) → squared x n ≡ squared y n

@@ -11,6 +11,7 @@ use borrow.Author.Tests.{eqb-true, eqb-false}
 use Rattle.fixed.specs.Operators.{L-add, L-mult}
 use Rattle.fixed.specs.Lists.{L-sum}
 use Rattle.fixed.proofs.Bounds.{abs-add, abs-mul}
+use Rattle.fixed.proofs.Sums.{sum-le, mult-le}
 use Rattle.sums.specs.Plain.{plain, peak, reach, weighed}
 use Rattle.sums.proofs.Plain.{double-add, unclipped, plain-mult}
 
@@ -28,6 +29,11 @@ module _ (x y : ℕ → ℤ) where
   unfolding plain weighed
   plain-le zero = omega arith
   plain-le (suc n) = omega (arith, plain-le n, abs-add (plain x y n) (x n *ℤ y n), abs-mul (x n) (y n))
+
+  -- the clipped sum too
+  pub clipped-le : (n : ℕ) → natAbs (L-sum (pos 0) (λ k. L-mult (x k) (y k)) n) ≤ 2 * weighed x y n
+  unfolding weighed
+  clipped-le = sum-le (λ k. L-mult (x k) (y k)) (λ n. 2 * weighed x y n) (λ k. omega (arith, mult-le (x k) (y k)))
 
   pub never-clipped : (n : ℕ) → weighed x y n < 2 ^ 30 → L-sum (pos 0) (λ k. L-mult (x k) (y k)) n ≡ pos 2 *ℤ plain x y n
   unfolding plain weighed L-sum L-add

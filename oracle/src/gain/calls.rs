@@ -54,16 +54,42 @@ impl Call {
         quantization::pitch_gain(&self.target, &self.adaptive)
     }
 
-    /// The index of the row, by the published quantizer with the pair in place of its prediction.
+    /// The same call with the other limit.
+    pub fn with_other_limit(&self) -> Self {
+        let limit = match self.limit {
+            GainLimit::Unrestricted => GainLimit::Resonance,
+            GainLimit::Resonance => GainLimit::Unrestricted,
+        };
+        Self {
+            limit,
+            ..self.clone()
+        }
+    }
+
+    /// The index of the row that `nearest` gives.
     pub fn quantize(&self) -> u16 {
+        self.nearest().index
+    }
+
+    /// The nearest row, by the published quantizer with the pair in place of its prediction.
+    pub fn nearest(&self) -> Nearest {
         let quantizer = PairQuantizer {
             decoder: PairDecoder(Prediction {
                 exponent: self.exponent,
                 fraction: self.fraction,
             }),
         };
-        quantizer.quantize(&self.target, &self.adaptive, &self.filtered, self.limit)
+        let (index, distance) =
+            quantizer.quantize(&self.target, &self.adaptive, &self.filtered, self.limit);
+        Nearest { index, distance }
     }
+}
+
+/// The row of the least distance within a limit.
+#[derive(Debug, Clone, Copy)]
+pub struct Nearest {
+    pub index: u16,
+    pub distance: i32,
 }
 
 impl fmt::Debug for Call {

@@ -2,7 +2,7 @@
 
 use super::{
     Compared,
-    calls::{EXPONENTS, answer},
+    calls::{EXPONENTS, Nearest, answer},
     cases::{CHANGES, Case, Quantized},
     rows::{RESONANCE_ROWS, ROWS},
     sources::{self, Drawn},
@@ -14,6 +14,12 @@ const EXPONENT_COUNT: usize = (*EXPONENTS.end() - *EXPONENTS.start()) as usize +
 /// What was compared, and which cases were met.
 pub struct Tally {
     answers: Line,
+    /// The answers to the same calls with the other limit, and the laws of both answers.
+    other_answers: Line,
+    laws: Line,
+    /// How often the rows of both limits are equal, and how often unequal.
+    equal: u64,
+    unequal: u64,
     sources: Cases<sources::Case>,
     cases: Cases<Case>,
     /// How often each row was chosen without a limit, and within the resonance limit.
@@ -28,6 +34,10 @@ impl Compared for Tally {
     fn new() -> Self {
         Self {
             answers: Line::new("gain/quantization.rs"),
+            other_answers: Line::new("gain/quantization.rs, with the other limit"),
+            laws: Line::new("laws of both limits' rows and distances"),
+            equal: 0,
+            unequal: 0,
             sources: Cases::new(),
             cases: Cases::new(),
             rows: [0; _],
@@ -39,6 +49,10 @@ impl Compared for Tally {
 
     fn add(&mut self, part: Self) {
         self.answers.add(part.answers);
+        self.other_answers.add(part.other_answers);
+        self.laws.add(part.laws);
+        self.equal += part.equal;
+        self.unequal += part.unequal;
         self.sources.add(part.sources);
         self.cases.add(part.cases);
         for (counts, part) in [
@@ -75,10 +89,14 @@ impl Compared for Tally {
                 "call with the exponent that is drawn least often",
                 least(&self.exponents),
             ),
+            ("rows of both limits equal", self.equal),
+            ("rows of both limits unequal", self.unequal),
         ]);
         let counted = self.cases.counts(|case| !case.must_occur());
         vec![
             self.answers,
+            self.other_answers,
+            self.laws,
             Line::of_cases(cases),
             Line::of_counts(counted),
         ]
@@ -86,9 +104,10 @@ impl Compared for Tally {
 
     fn compare_call(&mut self, drawn: &Drawn) {
         let call = &drawn.call;
-        let ours = project::quantize(call.lists(), call.exponent, call.fraction, call.choice());
-        let index = call.quantize();
-        let row = usize::from(index);
+        let nearest = compare_answer(&mut self.answers, drawn);
+        let other = compare_answer(&mut self.other_answers, &drawn.with_other_limit());
+        self.check_laws(drawn, nearest, other);
+        let row = usize::from(nearest.index);
         let quantized = Quantized { call, row };
         let mut cases = quantized.cases();
         // One of the changes for each call, else they would take most of the time.
@@ -106,11 +125,39 @@ impl Compared for Tally {
             }
         }
         self.exponents[(call.exponent - EXPONENTS.start()) as usize] += 1;
-        self.answers.compared += 1;
-        let expected = answer(Ok(index));
-        if ours != expected {
-            self.answers
-                .difference(drawn.index, drawn, &ours, &expected);
+    }
+}
+
+impl Tally {
+    /// 02, request 14: the rows of both limits are equal exactly where the unrestricted one is within
+    /// the resonance limit, and the least distance within it is never below the unrestricted one.
+    fn check_laws(&mut self, drawn: &Drawn, nearest: Nearest, other: Nearest) {
+        let [unrestricted, resonance] = match drawn.call.limit {
+            GainLimit::Unrestricted => [nearest, other],
+            GainLimit::Resonance => [other, nearest],
+        };
+        let equal = resonance.index == unrestricted.index;
+        self.equal += u64::from(equal);
+        self.unequal += u64::from(!equal);
+        self.laws.compared += 1;
+        let within = usize::from(unrestricted.index) < RESONANCE_ROWS;
+        if equal != within || resonance.distance < unrestricted.distance {
+            self.laws.tell_difference(drawn.index, || {
+                format!("{drawn:?}: unrestricted {unrestricted:?}, resonance {resonance:?}")
+            });
         }
     }
+}
+
+/// Compares the library's answer with the published one, and gives the latter.
+fn compare_answer(line: &mut Line, drawn: &Drawn) -> Nearest {
+    let call = &drawn.call;
+    let ours = project::quantize(call.lists(), call.exponent, call.fraction, call.choice());
+    let nearest = call.nearest();
+    line.compared += 1;
+    let expected = answer(Ok(nearest.index));
+    if ours != expected {
+        line.difference(drawn.index, drawn, &ours, &expected);
+    }
+    nearest
 }

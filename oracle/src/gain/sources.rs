@@ -77,6 +77,14 @@ impl Drawn {
             call,
         }
     }
+
+    /// The same call with the other limit.
+    pub fn with_other_limit(&self) -> Self {
+        Self {
+            call: self.call.with_other_limit(),
+            ..*self
+        }
+    }
 }
 
 impl fmt::Debug for Drawn {

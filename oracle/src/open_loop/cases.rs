@@ -5,12 +5,12 @@
 //! answers.
 //!
 //! Two clips of the published push have no case, since no words reach them. The left shift cannot
-//! clip a word: below a total energy of 1048576 no word is above 724 in magnitude. And the long
-//! product that is a section's value is never cut to 16 bits: the correlation is at most the root
-//! of the new words' energy times the root of the delayed words' energy, and the value is half of
-//! it divided by the latter, so half the former. That is at most about 23170 where no word was
-//! shifted right, the squares of the new words being below 2^30, and about 25906 where each of
-//! them is at most 4096 in magnitude.
+//! clip a word: below a total energy of 1048576 no word is above 724 in magnitude. And the cut to 16
+//! bits changes no section's long: the correlation is at most the root of the new words' energy
+//! times the root of the delayed words' energy, and the long is about half of it divided by the
+//! latter, so half the former. That is at most about 23170 where no word was shifted right, the
+//! squares of the new words being below 2^30, and about 25906 where each of them is at most 4096 in
+//! magnitude. longs.rs checks the longs of every push.
 
 use super::{HALF_FRAME, HISTORY, LAGS, LEAST_LAG, pushes::Push};
 use crate::{
@@ -19,7 +19,7 @@ use crate::{
         pitch::open_loop::{candidate, fractional, multiply, product, shift_word},
     },
     counts::{Found, cases},
-    published::{open_loop_correlation, open_loop_scaled},
+    published::{open_loop_candidate, open_loop_correlation, open_loop_scaled},
     sums::Sum,
 };
 use std::ops::RangeInclusive;
@@ -41,6 +41,7 @@ cases! {
     FullScale => "push of words of full scale that repeat or turn earlier ones",
     Threshold => "push of words about the threshold of a later section",
     Levels => "push of words about a level",
+    Greatest => "push of words about a level, or of those of full scale behind them",
     Feed => "push of the feed",
     ChangedFeed => "push of the feed's words, changed",
     Section1 => "answer in section 80 to 143",
@@ -114,11 +115,12 @@ impl Case {
         }
     }
 
-    /// Whether the case is a refusal, which no record of a feed can meet.
-    pub fn is_refused(self) -> bool {
+    /// Whether the recorded sample does not meet the case: no record of a feed is refused, and the
+    /// sample has no chain made for the greatest longs.
+    pub fn is_unrecorded(self) -> bool {
         matches!(
             self,
-            Self::RefusedSamples | Self::RefusedHistory | Self::RefusedBoth
+            Self::RefusedSamples | Self::RefusedHistory | Self::RefusedBoth | Self::Greatest
         )
     }
 
@@ -136,8 +138,15 @@ pub struct Pushed<'a> {
     pub lag: u16,
 }
 
+/// The cases that a push met.
+pub struct PushedCases {
+    pub found: Found<Case>,
+    /// The sections' values before they are cut to 16 bits.
+    pub longs: [i32; SECTIONS.len()],
+}
+
 impl Pushed<'_> {
-    pub fn cases(&self) -> Found<Case> {
+    pub fn cases(&self) -> PushedCases {
         let mut found = Found::new();
         let input = self.input();
         let scaled = find_scaling(&mut found, &input, self.lag);
@@ -153,7 +162,10 @@ impl Pushed<'_> {
             "the lag found here"
         );
         correlations.find_answer_cases(&mut found, decides, self.lag);
-        found
+        PushedCases {
+            found,
+            longs: sections.map(|section| section.long),
+        }
     }
 
     fn input(&self) -> [i16; INPUT] {
@@ -225,9 +237,10 @@ fn answer(scaled: &[i16; INPUT]) -> usize {
     sections[find_choice(&mut found, &sections)].lag
 }
 
-/// The best lag of a section and its value.
+/// The best lag of a section, and its value before and after the cut to 16 bits.
 struct Section {
     lag: usize,
+    long: i32,
     value: i16,
 }
 
@@ -277,8 +290,9 @@ impl Correlations {
     fn sections(&self, scaled: &[i16; INPUT]) -> [Section; 3] {
         SECTIONS.map(|lags| {
             let (first, last) = lags.into_inner();
+            let (_, long) = open_loop_candidate(scaled, &self.clipped, first, last);
             let (lag, value) = candidate(scaled, &self.clipped, first, last);
-            Section { lag, value }
+            Section { lag, long, value }
         })
     }
 
@@ -308,11 +322,11 @@ impl Correlations {
         let negative = [Case::Negative1, Case::Negative2, Case::Negative3];
         found.case(negative[number], best < 0);
 
-        let value = multiply(best & !1, inverse_sqrt(energy.clipped) & !1);
+        let long = multiply(best & !1, inverse_sqrt(energy.clipped) & !1);
         assert_eq!(
-            value,
-            i32::from(section.value),
-            "the section's value found here, not cut"
+            (long, long as i16),
+            (section.long, section.value),
+            "the section's long and value found here"
         );
     }
 

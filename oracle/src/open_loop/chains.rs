@@ -45,6 +45,9 @@ enum Source {
     /// Half frames about a level, so that the correlations with the half frames before may all be
     /// negative.
     Levels,
+    /// Words of full scale behind words about a level, of which a section's long is about the
+    /// greatest, or the least.
+    Greatest(Rise),
 }
 
 pub struct Chain<'a> {
@@ -96,6 +99,19 @@ impl<'a> Chain<'a> {
         }
     }
 
+    /// A chain made for the greatest longs. `at` gives none, so that the recorded sample and the feeds
+    /// that are drawn stay as they are.
+    pub fn greatest(index: u64) -> Self {
+        let mut random = Random::at(index);
+        Self {
+            source: Source::Greatest(Rise::new(&mut random)),
+            random,
+            feed: &[],
+            place: 0,
+            done: 0,
+        }
+    }
+
     /// The case that an accepted push of this chain counts as.
     pub fn case(&self) -> Case {
         match self.source {
@@ -110,6 +126,7 @@ impl<'a> Chain<'a> {
             Source::FullScale => Case::FullScale,
             Source::Threshold(_) => Case::Threshold,
             Source::Levels => Case::Levels,
+            Source::Greatest(_) => Case::Greatest,
         }
     }
 
@@ -156,6 +173,7 @@ impl<'a> Chain<'a> {
             Source::Limit(wave, limit) => limit_words(random, history, wave, *limit),
             Source::FullScale => full_scale_words(random, history),
             Source::Levels => level_words(random),
+            Source::Greatest(rise) => rise.words(random),
         }
     }
 
@@ -230,14 +248,67 @@ fn level_words(random: &mut Random) -> HalfFrame {
     let places = random.below(16) as u32;
     let [first, second] = quiet(random, places);
     let change = random.below(2 * HALF_FRAME as u64) as usize;
-    let noise: HalfFrame = match random.below(2) {
-        0 => [0; HALF_FRAME],
-        _ => quiet(random, (places + 3).min(15)),
-    };
+    let noise = at_times_noise(random, places + 3);
     std::array::from_fn(|place| {
         let level: i16 = if place < change { first } else { second };
         level.saturating_add(noise[place])
     })
+}
+
+/// Zeros, or noise that is shifted right by so many places, 15 at most.
+fn at_times_noise(random: &mut Random, places: u32) -> HalfFrame {
+    match random.below(2) {
+        0 => [0; HALF_FRAME],
+        _ => quiet(random, places.min(15)),
+    }
+}
+
+/// Two half frames about a level, which fill the history, then one of full scale.
+struct Rise {
+    /// The words about the level and those of full scale, each two in turn.
+    levels: [i16; 2],
+    ends: [i16; 2],
+    /// The half frames about the level that are done.
+    done: usize,
+}
+
+impl Rise {
+    /// The words of full scale are all equal, or of both signs in turn. Those about the level have
+    /// the same signs, or the opposite ones.
+    fn new(random: &mut Random) -> Self {
+        const ENDS: [[i16; 2]; 3] = [[i16::MIN; 2], [i16::MAX; 2], [i16::MIN, i16::MAX]];
+        // From about this level on the sum of 80 products with words of full scale is clipped.
+        const CLIPS: i16 = 26214;
+        // 80 such words, shifted right, have an energy of about 33/32 of a power of 4, where the
+        // published inverse root is furthest above the exact one; their halves too.
+        const FURTHEST: i16 = 21040;
+        let ends = ENDS[random.below(ENDS.len() as u64) as usize];
+        let level = match random.below(4) {
+            0 | 1 => CLIPS,
+            2 => FURTHEST >> random.below(4),
+            _ => random.below(1 << 15) as i16,
+        };
+        let level = level.saturating_add(random.below(33) as i16 - 16);
+        let turns = random.below(2) == 0;
+        let levels = ends.map(|end| if (end < 0) ^ turns { -level } else { level });
+        Self {
+            levels,
+            ends,
+            done: 0,
+        }
+    }
+
+    /// The next half frame. Behind that of full scale another rise starts.
+    fn words(&mut self, random: &mut Random) -> HalfFrame {
+        if self.done == 2 {
+            let ends = self.ends;
+            *self = Self::new(random);
+            return std::array::from_fn(|place| ends[place % 2]);
+        }
+        self.done += 1;
+        let noise = at_times_noise(random, 12);
+        std::array::from_fn(|place| self.levels[place % 2].saturating_add(noise[place]))
+    }
 }
 
 /// The sums of squares of which twice the value is a limit of the scaling.

@@ -37,7 +37,7 @@ pub fn sample() -> Vec<u8> {
         }
     }
     for &(case, text) in Case::TEXTS {
-        let met = case.is_refused() || case.needs_feed() || sample.met.has(case);
+        let met = case.is_unrecorded() || case.needs_feed() || sample.met.has(case);
         assert!(met, "no chain for the sample: {text}");
     }
     sample.feed
@@ -90,7 +90,7 @@ impl Sample {
             lag,
         };
         self.met.case(case, true);
-        self.met.add(&pushed.cases());
+        self.met.add(&pushed.cases().found);
         self.record(OPEN, samples);
     }
 

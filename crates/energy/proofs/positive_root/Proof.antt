@@ -1,5 +1,4 @@
 use mathlib.Core.Path.{_≡_, ap, _∙_}
-use mathlib.Core.Bool.{Bool, true, false, cond}
 use Prim.Native.Nat.{ℕ, _+_, _-_, _/_, _%_, _^_, _<_, _≤_}
 use native.Mathlib.Numerals.{add-one}
 use native.Mathlib.Omega.{arith}
@@ -14,12 +13,9 @@ use Rattle.fixed.specs.Line.{table-line}
 use Rattle.energy.specs.Root.{halved, root-in}
 use Rattle.fixed.proofs.Norms.{one-zero, norm-is, norm-at-most, normal-range, normal-is}
 use Rattle.fixed.proofs.Shifts.{half-le}
+use Rattle.energy.proofs.Roots.{halved-range}
 use Rattle.energy.proofs.positive_root.Statement.{statement}
 use Rattle.energy.proofs.positive_root.Tie as tie
-
-halved-range : (m : ℕ) (b : Bool) → 2 ^ 30 ≤ m → m < 2 ^ 31 → (2 ^ 29 ≤ cond b (m / 2) m) × (cond b (m / 2) m < 2 ^ 31)
-halved-range m true h l = (omega arith, omega arith)
-halved-range m false h l = (omega arith, omega arith)
 
 -- what the line is taken at
 chosen : (c : tie.After-even-exponent-halved) → c .even-exponent-halved .result ≡ halved (normal (c .before .args .u)) (exponent (c .before .args .u))

@@ -1,4 +1,4 @@
-use Rattle.open_loop_sections.specs.Sections.{Lag-max, delayed-energy, value-at}
+use Rattle.open_loop_sections.specs.Sections.{Lag-max, delayed-energy, long-at, value-at}
 use Rattle.fixed.proofs.Choices.{best-in}
 use Rattle.fixed.specs.Lists.{at}
 use lib.Signed.{ltZ}
@@ -48,7 +48,7 @@ low-word-requires : tie.Need-low-word-requires
 low-word-requires c κs = search needs
 
 returns : tie.Need-returns
-unfolding value-at delayed-energy
+unfolding value-at long-at delayed-energy
 returns c =
     let m = c .before in
     let r = m .before .before in
