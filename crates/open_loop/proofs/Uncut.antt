@@ -43,7 +43,7 @@ joined-words old new o n k h = rw (at-tabulate (joined-at old new) (pos 0) 223 k
     go true q = rw q (word (at old k) (o k))
     go false q = rw q (word (at new (k - 143)) (n (k - 143)))
 
--- ---- where the new words' squares are at most 80 * 2 ^ 24
+-- ---- where the new words' squares are at most 80 * 2 ^ 24, for any ends that are 27655 or farther from 0
 uncut : (low high : ℕ) (xs : List ℤ) (lag : ℕ) → squared (from xs 143) 80 ≤ 80 * 2 ^ 24 → 27655 ≤ suc low → 27655 ≤ high →
     (negsuc low ≤ℤ long-at xs lag) × (long-at xs lag ≤ℤ pos high) × (value-at xs lag ≡ long-at xs lag)
 unfolding value-at

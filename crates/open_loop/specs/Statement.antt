@@ -16,8 +16,8 @@ use Rattle.open_loop.specs.Detectors.{joined}
 abbrev pub Words : List ℤ → Type 0
 Words xs = (k : ℕ) → (negsuc 32767 ≤ℤ at xs k) × (at xs k ≤ℤ pos 32767)
 
--- with the 223 words scaled as 01 says, for every lag, and so for the best of each section: the long before the cut lies between -32768 and 32767, and
--- the section's value is that long. Correlation and energy in it are the clipped sums
+-- 02: 'for every history and half frame the long before the cut already lies between −32768 and 32767, clipped sums included, so that cutting changes
+-- nothing'. The 223 words are scaled as 01 says, and correlation and energy are the clipped sums; it holds for every lag, so for the best of each section
 unfoldable pub Cut-changes-nothing : Type 0
 Cut-changes-nothing =
     (d : Detector) (new : List ℤ) → Words (d .«history_q0») → Words new → (lag : ℕ) →

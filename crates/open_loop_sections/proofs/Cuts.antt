@@ -1,4 +1,4 @@
--- 02, request 14: the long before the cut is a word, for every lag, and so the cut changes nothing.
+-- 02, request 14: how far the long before the cut lies from 0, for every lag. The statement is over it: open_loop/specs/Statement.antt.
 use mathlib.Core.Path.{_≡_, refl}
 use mathlib.Core.Bool.{Bool, true, false}
 use mathlib.Core.List.{List}
