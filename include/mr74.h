@@ -308,6 +308,8 @@ typedef struct {
  * record, and a refused one, leaves it as it was. Only a pitch record looks at the subframe that
  * the searcher expects, and only a lag reading at the reader's. A reset makes both fresh, whatever
  * they were; a state that a record does not use is handed back as it was given.
+ * The last field of a pitch record, the fourth, and of a lag reading, the third, is the pitch in
+ * hertz: 24000 / (3 * lag + fraction), with the lag and the fraction that stand before it.
  * Refuses by 1 (history, then words), 9 and 10, then as the record's stage does: 2 to 7 and 14.
  */
 mr74_step_answer mr74_step(const uint8_t *feed, size_t feed_length, size_t at,

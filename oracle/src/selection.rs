@@ -13,7 +13,7 @@ mod stages;
 mod states;
 mod steps;
 
-pub use answers::{Answer, Answered, TITLE, filter_words, printed};
+pub use answers::{Answer, Answered, TITLE, filter_words, hertz, printed};
 pub use compare::{compare, program_path};
 pub use encoder::changed;
 pub use stages::{LagReader, Stages, first};

@@ -189,8 +189,9 @@ inline std::string line_of(Kind kind, const answer &told)
     for (int i = 0; i < told.count; i++)
         line += ' ' + std::to_string(told.fields[i]);
     if (kind == PITCH || kind == LAG) {
-        int lag = told.fields[kind == PITCH];
-        line += ' ' + std::to_string(lag == 0 ? 0 : 8000 / lag);
+        const int32_t *lag = told.fields + (kind == PITCH);
+        int32_t thirds = 3 * lag[0] + lag[1];
+        line += ' ' + std::to_string(thirds <= 0 ? 0 : 24000 / thirds);
     }
     return line;
 }

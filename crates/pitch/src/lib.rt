@@ -39,7 +39,7 @@ impl Fraction {
     }
 
     // The same counted from 0.
-    fn from_zero(self) -> u32
+    pub fn from_zero(self) -> u32
         ensures { λ r. ⌜ r ≡ from-zero self ⌝ }
     {
         match self {

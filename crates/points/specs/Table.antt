@@ -32,10 +32,10 @@ points =
     -- 'previous 144, index 31: 144 and −1. Previous 20, index 0: 19 and +1'
     ∷ record { asked = relativeReading 144 31; told = values (pos 144 ∷ negsuc 0 ∷ []) }
     ∷ record { asked = relativeReading 20 0; told = values (pos 19 ∷ pos 1 ∷ []) }
-    -- lines 2, 3, 4 and 6 of the listing
+    -- lines 2, 3, 4 and 6 of the listing; 02, request 01: 'Line 4 of document 01's listing then ends in 93 and line 3 still in 97'
     ∷ record { asked = openLoop (replicate 80 (pos 0)); told = values (pos 80 ∷ []) }
     ∷ record { asked = silent-pitch [] 1; told = values (pos 189 ∷ pos 82 ∷ pos 1 ∷ pos 97 ∷ []) }
-    ∷ record { asked = silent-pitch (1 ∷ []) 2; told = values (pos 27 ∷ pos 85 ∷ pos 1 ∷ pos 94 ∷ []) }
+    ∷ record { asked = silent-pitch (1 ∷ []) 2; told = values (pos 27 ∷ pos 85 ∷ pos 1 ∷ pos 93 ∷ []) }
     ∷ record { asked = pulseWords (replicate 40 (pos 0)) (replicate 40 (pos 0)) 40 (pos 0); told = values (pos 6 ∷ pos 15 ∷ []) }
     -- 'line 6 with lag 20, gain 16384: innovation 8190 at 21, 22, 23'
     ∷ record { asked = innovationAt (21 ∷ 22 ∷ 23 ∷ []) (replicate 40 (pos 0)) (replicate 40 (pos 0)) 20 (pos 16384); told = values (pos 8190 ∷ pos 8190 ∷ pos 8190 ∷ []) }

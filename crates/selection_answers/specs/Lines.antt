@@ -1,10 +1,10 @@
 -- 01, 'Feed and program': what a record answers, as the program prints it.
 use mathlib.Core.List.{List, [], _∷_}
-use Prim.Native.Nat.{ℕ, _/_}
+use Prim.Native.Nat.{ℕ, _+_, _-_, _*_, _/_}
 use lib.IntN.{ℤ, pos}
 use Rattle.refusal.specs.Refused.{Told, values, turned-down}
 use Rattle.pitch.specs.declared.PitchLag.{PitchLag}
-use Rattle.pitch.specs.Kinds.{thirds}
+use Rattle.pitch.specs.Kinds.{thirds, from-zero}
 use Rattle.pitch_search.specs.declared.SearchedPitch.{SearchedPitch}
 use Rattle.codebook_code.specs.declared.PulseWords.{PulseWords}
 use Rattle.gain.specs.declared.QuantizedGain.{QuantizedGain}
@@ -16,9 +16,9 @@ pub data Line : Type 0 where
   none : Line
   line : ℕ → List ℤ → Line
 
--- 'Hertz is floor(8000 / lag)'
-abbrev pub hertz : ℕ → ℕ
-hertz lag = 8000 / lag
+-- 02, request 01: 'floor(24000 / (3 × lag + fraction))'; `from-zero` is the fraction plus 1. Lag 0 with a fraction of 0 or −1 gives 0: no stage answers it
+abbrev pub hertz : PitchLag → ℕ
+hertz l = 24000 / (3 * l .samples + from-zero (l .fraction) - 1)
 
 -- '`reset` with no field'
 abbrev pub reset-line : Line
@@ -34,7 +34,7 @@ lag-fields l h = pos (l .samples) ∷ thirds (l .fraction) ∷ pos h ∷ []
 
 -- '`pitch` index, lag, fraction, hertz'
 abbrev pub pitch-line : SearchedPitch → Line
-pitch-line p = line 2 (pos (p .index) ∷ lag-fields (p .lag) (hertz (p .lag .samples)))
+pitch-line p = line 2 (pos (p .index) ∷ lag-fields (p .lag) (hertz (p .lag)))
 
 -- '`pulses` positions, signs'
 abbrev pub pulse-line : PulseWords → Line
@@ -50,7 +50,7 @@ filter-line words = line 5 words
 
 -- '`lag` lag, fraction, hertz'
 abbrev pub lag-line : PitchLag → Line
-lag-line l = line 6 (lag-fields l (hertz (l .samples)))
+lag-line l = line 6 (lag-fields l (hertz l))
 
 -- an answer as 01 gives it, with the words that stand beside it
 abbrev pub told-answer : Answer → List ℤ → Told Line

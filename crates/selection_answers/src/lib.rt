@@ -20,7 +20,8 @@ ghost use Rattle.gain.specs.Rows.{told-row};
 ghost use Rattle.selection_answers.specs.Fields.{accepted-line, fields-of};
 ghost use Rattle.selection_answers.specs.Lines.{hertz, open-line, pitch-line, pulse-line, gain-line, lag-line, told-answer};
 
-const SAMPLE_RATE: u16 = 8000;
+// Thirds of a sample in a second.
+const THIRDS_PER_SECOND: u32 = 24000;
 
 pub enum Answer {
     // No record: the feed ends there, or a body has not its kind's length.
@@ -63,7 +64,7 @@ pub fn pitch_answer(found: Found) -> Answer
             Answer::Pitch {
                 index: searched.index,
                 lag,
-                hertz: hertz(lag.samples),
+                hertz: hertz(lag),
             }
         }
         Found::Refused(refusal) => Answer::Refused(refusal),
@@ -94,19 +95,22 @@ pub fn reading_answer(reading: Reading) -> Answer
     match reading {
         Reading::Lag(lag) => Answer::Lag {
             lag,
-            hertz: hertz(lag.samples),
+            hertz: hertz(lag),
         },
         Reading::Refused(refusal) => Answer::Refused(refusal),
     }
 }
 
-fn hertz(lag: u16) -> u16
+// `above` is the lag in thirds and 1 more, since the fraction is counted from 0.
+fn hertz(lag: PitchLag) -> u16
     ensures { λ r. ⌜ r ≡ hertz lag ⌝ }
 {
-    if lag == 0 {
+    let fraction = lag.fraction;
+    let above = 3 * lag.samples as u32 + fraction.from_zero();
+    if above <= 1 {
         return 0;
     }
-    SAMPLE_RATE / lag
+    (THIRDS_PER_SECOND / (above - 1)) as u16
 }
 
 // ---- An answer in numbers: `number` is 0, or a refusal's with its detail.

@@ -4,7 +4,7 @@
 use crate::{
     codec::mr74::{gain::TABLE, pitch::PitchLag},
     feed::{BODIES, words},
-    selection::{Answer, Answered, Stages, TITLE, filter_words},
+    selection::{Answer, Answered, Stages, TITLE, filter_words, hertz},
 };
 use std::{
     fs::File,
@@ -105,7 +105,7 @@ fn print(output: &mut Output, answered: &Answered) -> io::Result<()> {
 
 fn print_lag(output: &mut Output, lag: PitchLag) -> io::Result<()> {
     let (samples, thirds) = (lag.samples(), lag.fraction().thirds());
-    write!(output, "{samples} {thirds} {}", 8000 / samples)
+    write!(output, "{samples} {thirds} {}", hertz(lag))
 }
 
 fn print_words(output: &mut Output, words: &[i16]) -> io::Result<()> {

@@ -117,10 +117,15 @@ impl Answer {
     }
 }
 
-/// The whole lag, its thirds, and the frequency of that whole lag at 8000 samples a second.
+/// The whole lag, its thirds and the frequency.
 fn lag_fields(lag: PitchLag) -> [i32; 3] {
-    let samples = i32::from(lag.samples());
-    [samples, lag.fraction().thirds().into(), 8000 / samples]
+    let thirds = lag.fraction().thirds();
+    [lag.samples().into(), thirds.into(), hertz(lag)]
+}
+
+/// 02, request 01: floor(24000 / (3 × lag + fraction)). A lag of the published Rust is 19 or more.
+pub fn hertz(lag: PitchLag) -> i32 {
+    24000 / (3 * i32::from(lag.samples()) + i32::from(lag.fraction().thirds()))
 }
 
 /// Residual, impulse response, target and error.
