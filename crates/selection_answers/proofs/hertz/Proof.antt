@@ -7,9 +7,8 @@ use Rattle.pitch.proofs.Indexings.{from-zero-le}
 use Rattle.selection_answers.proofs.hertz.Statement.{statement}
 use Rattle.selection_answers.proofs.hertz.Tie as tie
 
--- by a divisor of 0
-by-none : (n : ℕ) {d : ℕ} → d ≡ 0 → 0 ≡ n / d
-by-none n e = rw e (sym (div-zero n))
+by-zero : (n : ℕ) {d : ℕ} → d ≡ 0 → 0 ≡ n / d
+by-zero n e = rw e (sym (div-zero n))
 
 cast-above : tie.Need-cast-above
 cast-above c = search needs
@@ -24,7 +23,7 @@ add-above : tie.Need-add-above
 add-above c = omega (arith, c .from-zero .ensures, from-zero-le (c .before .before .args .lag .fraction))
 
 returns : tie.Need-returns
-returns c = by-none _ (omega (arith, c .before .from-zero .ensures))
+returns c = by-zero _ (omega (arith, c .before .from-zero .ensures))
 
 sub-result : tie.Need-sub-result
 sub-result c = search needs
