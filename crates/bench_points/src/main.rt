@@ -1,4 +1,6 @@
 // 01, 'Bench points': those that are compared and not proved. `stdout` has what 01 says of each.
+#![tactic(auto)]
+
 use libc::STDOUT_FILENO;
 use logarithm::Power;
 use pitch::{OpenLoop, OpenLoopLag};

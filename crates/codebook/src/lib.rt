@@ -1,4 +1,6 @@
 // The pulse reader, TS 26.073 decode_4i40_17bits and dgray, from codebook.rs; how a place and a sign are written, build_code and gray.
+#![tactic(auto)]
+
 ghost use Rattle.std.specs.Prelude.{◌≡◌, ◌<◌, ◌^◌, length};
 ghost use Rattle.codebook.specs.Gray.{dgray};
 ghost use Rattle.codebook.specs.Words.{number_of, position-bits, slot, sign_bit};
@@ -25,7 +27,7 @@ const POSITIVE_Q13: i16 = 8191;
 const NEGATIVE_Q13: i16 = -8192;
 
 // The pulses' places: tracks 0, 1 and 2, then track 3 or 4.
-#[derive(Drop)]
+#[derive(Clone, Copy)]
 pub struct Places {
     pub first: usize,
     pub second: usize,
@@ -33,7 +35,7 @@ pub struct Places {
     pub last: usize,
 }
 
-#[derive(Drop)]
+#[derive(Clone, Copy)]
 pub enum PulseReading {
     Places(Places),
     Refused(Refusal),

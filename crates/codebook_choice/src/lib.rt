@@ -1,4 +1,6 @@
 // The choice of four pulses, TS 26.073 search_4i40, from codebook/search.rs.
+#![tactic(auto)]
+
 ghost use Rattle.std.specs.Prelude.{◌≡◌, cond, [], ℕ, ◌+◌, ◌*◌, ◌/◌, ◌<◌, pos, get_or};
 ghost use Rattle.std.specs.Int.Signed.{mag};
 ghost use Rattle.fixed.specs.Operators.{add, mult, round, L-mult, L-mac, L-deposit-h};

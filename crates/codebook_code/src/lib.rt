@@ -1,4 +1,6 @@
 // The words of four pulses, their innovation and what the impulse makes of them, TS 26.073 code_4i40_17bits on lists of 40 words, from codebook/search.rs.
+#![tactic(auto)]
+
 ghost use Rattle.std.specs.Prelude.{◌≡◌, ◌<◌, pos};
 ghost use Rattle.std.specs.Int.Signed.{lt_z};
 ghost use Rattle.fixed.specs.Lists.{at};
@@ -10,13 +12,13 @@ use codebook_steps::Trial;
 
 const SUBFRAME_SAMPLES: usize = 40;
 
-#[derive(Drop)]
+#[derive(Clone, Copy)]
 pub struct PulseWords {
     pub positions: u16,
     pub signs: u16,
 }
 
-#[derive(Drop)]
+#[derive(Clone, Copy)]
 pub struct SearchResult {
     pub words: PulseWords,
     pub innovation_q13: [i16; 40],

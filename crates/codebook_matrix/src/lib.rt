@@ -1,4 +1,6 @@
 // The impulse's correlations with the signs, TS 26.073 cor_h, from codebook/search.rs.
+#![tactic(auto)]
+
 ghost use Rattle.std.specs.Prelude.{◌≡◌, true, ℕ, ◌+◌, ◌-◌, ◌<◌, pos, negsuc, nat_abs, ◌*ℤ◌};
 ghost use Rattle.fixed.specs.Operators.{mult, round, L-mult, L-shl};
 ghost use Rattle.fixed.specs.Lists.{at, tabulate};

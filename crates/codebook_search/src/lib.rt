@@ -1,4 +1,6 @@
 // The pulse search behind 01's checks, from codebook/search.rs.
+#![tactic(auto)]
+
 ghost use Rattle.std.specs.Prelude.{◌≡◌};
 ghost use Rattle.codebook_search.specs.Pulses.{told-words, lent, pulses};
 
@@ -12,7 +14,7 @@ const MIN_LAG: u16 = 19;
 
 const MAX_LAG: u16 = 144;
 
-#[derive(Drop)]
+#[derive(Clone, Copy)]
 pub enum Pulses {
     Words(PulseWords),
     Refused(Refusal),

@@ -1,4 +1,6 @@
 // The sharpening of the impulse and of the innovation, from codebook/search.rs.
+#![tactic(auto)]
+
 ghost use Rattle.std.specs.Prelude.{◌≡◌};
 ghost use Rattle.codebook_sharpening.specs.Sharpenings.{doubled, sharpened};
 
@@ -6,7 +8,7 @@ const SUBFRAME_SAMPLES: usize = 40;
 
 // The sharpening gain, in Q14. No gain in Q15, and no other gain, is of this kind.
 #[repr(C)]
-#[derive(Drop)]
+#[derive(Clone, Copy)]
 pub struct SharpeningGain(pub i16);
 
 // In Q15, where it clips from 16384 on and below -16384.

@@ -1,9 +1,11 @@
 // A pulse more in the choice of four, and what replaces what is held, TS 26.073 search_4i40, from codebook/search.rs.
+#![tactic(auto)]
+
 ghost use Rattle.std.specs.Prelude.{◌≡◌};
 ghost use Rattle.codebook_steps.specs.Steps.{step-to, exceeds, better, none_in, kept};
 
 // A pulse more: the sum of the correlations so far, its square, the energy so far.
-#[derive(Drop)]
+#[derive(Clone, Copy)]
 pub struct Step {
     pub place: usize,
     pub sum: i16,
@@ -12,7 +14,7 @@ pub struct Step {
 }
 
 // Four pulses in the order in which they were chosen.
-#[derive(Drop)]
+#[derive(Clone, Copy)]
 pub struct Trial {
     pub first: usize,
     pub second: usize,

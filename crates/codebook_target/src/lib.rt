@@ -1,4 +1,6 @@
 // What the pulse search is led by, from codebook/search.rs: the target's correlation with the impulse, the signs and the starts that it gives.
+#![tactic(auto)]
+
 ghost use Rattle.std.specs.Prelude.{◌≡◌, cond, ◌-◌, ◌<◌};
 ghost use Rattle.fixed.specs.Operators.{abs-s};
 ghost use Rattle.fixed.specs.Lists.{at, tabulate};
@@ -134,7 +136,7 @@ pub fn starts(magnitudes: &[i16; 40]) -> [i16; 40]
     left
 }
 
-#[derive(Drop)]
+#[derive(Clone, Copy)]
 struct Smallest {
     place: usize,
     value: i16,

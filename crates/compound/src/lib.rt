@@ -1,4 +1,6 @@
 // Operators that TS 26.073 makes of several basic ones, and those that stand in place of several: oper_32b.h, a product's high word, the sum with Overflow, the quotient, the straight line.
+#![tactic(auto)]
+
 ghost use Rattle.std.specs.Prelude.{◌≡◌, min, pos};
 ghost use Rattle.fixed.specs.Operators.{extract-h, low_half, L-Extract, Mpy-32, Mpy-32-16, L-shl, L-mult, L-mac-flagged, div-s};
 ghost use Rattle.fixed.specs.Line.{line};

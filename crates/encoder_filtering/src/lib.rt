@@ -1,4 +1,6 @@
 // The entries of target filtering, from encoder_filtering.rs.
+#![tactic(auto)]
+
 ghost use Rattle.std.specs.Prelude.{◌≡◌};
 ghost use Rattle.fixed.specs.Lists.{copied};
 ghost use Rattle.encoder_filtering.specs.Subframes.{told, lists, residual, prepare};
@@ -15,7 +17,7 @@ const COEFFICIENTS: usize = 11;
 const INPUT_SAMPLES: usize = 50;
 
 // What `residual` and `prepare` answer.
-#[derive(Drop)]
+#[derive(Clone, Copy)]
 pub enum Filtering {
     Written,
     Refused(Refusal),

@@ -1,4 +1,6 @@
 // TS 26.073 Inv_sqrt, from energy.rs: one over the root of a long, by a table of 49 entries and a straight line between two of them.
+#![tactic(auto)]
+
 ghost use Rattle.std.specs.Prelude.{◌≡◌, ◌<◌, ◌^◌, pos};
 ghost use Rattle.energy.specs.Root.{inverses, halved, root_in, Inv-sqrt-in, Inv-sqrt};
 

@@ -1,4 +1,6 @@
 // The record reader: what stands at a place of a feed, from 01, 'Feed and program'.
+#![tactic(auto)]
+
 ghost use Rattle.std.specs.Prelude.{◌≡◌, ◌+◌, ◌*◌, ◌≤◌, pos, length};
 ghost use Rattle.fixed.specs.Operators.{extract-l, remainder};
 ghost use Rattle.fixed.specs.Lists.{at, tabulate};
@@ -9,7 +11,7 @@ use refusal::Refusal;
 
 const LAST_KIND: u8 = 6;
 
-#[derive(Drop)]
+#[derive(Clone, Copy)]
 pub enum Header {
     // The feed ends there.
     End,

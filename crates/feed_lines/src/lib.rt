@@ -1,4 +1,6 @@
 // The program of 01, 'Feed and program': reads a feed from standard input and prints a line a record, both in blocks of 64 KB. The programs over it differ in their stored feeds alone.
+#![tactic(auto)]
+
 ghost use Rattle.std.specs.Prelude.{◌≡◌, ◌+◌, ◌<◌, ◌≤◌, not, length, if◌then◌else◌};
 ghost use Rattle.feed.specs.Records.{ends-feed};
 ghost use Rattle.feed_lines.specs.Endings.{Stops};
@@ -21,7 +23,7 @@ const FILTER: u8 = 5;
 const LOST: usize = 65537;
 
 // How the printing ended.
-#[derive(Drop)]
+#[derive(Clone, Copy)]
 pub enum Ended {
     // Where the feed does: every record has its line.
     FeedEnd,
@@ -34,7 +36,7 @@ pub enum Ended {
 }
 
 // What is carried from record to record, beside the lists that `print` lends.
-#[derive(Drop)]
+#[derive(Clone, Copy)]
 struct State {
     searcher: Search,
     reader: Reader,
@@ -55,7 +57,7 @@ struct State {
 }
 
 // What a read left in the input block.
-#[derive(Drop)]
+#[derive(Clone, Copy)]
 struct Loaded {
     have: usize,
     last: bool,
@@ -63,7 +65,7 @@ struct Loaded {
 }
 
 // The place of a line in the output block.
-#[derive(Drop)]
+#[derive(Clone, Copy)]
 struct Place {
     filled: usize,
     written: bool,

@@ -1,4 +1,6 @@
 // The linear prediction filter A(z), TS 26.073 Weight_Ai and Residu: `weight` of postfilter.rs, `residual` of encoder_filtering.rs.
+#![tactic(auto)]
+
 ghost use Rattle.std.specs.Prelude.{◌≡◌, length};
 ghost use Rattle.fixed.specs.Lists.{tabulate};
 ghost use Rattle.filters.specs.Filters.{Weight-Ai, taps-to, filtered};

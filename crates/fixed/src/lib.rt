@@ -1,5 +1,7 @@
 // Words (i16) and longs (i32) in fixed point: TS 26.073's basic operators as small functions that take every value.
 // The Rust repeats them in every file; here they have one home. Each is equated with a number of the integers (specs/Operators.antt).
+#![tactic(auto)]
+
 ghost use Rattle.std.specs.Prelude.{◌≡◌, ◌+◌, ◌*◌, ◌^◌, min, pos, nat_abs, ◌*ℤ◌};
 ghost use Rattle.std.specs.Int.Signed.{mag, shr_z};
 ghost use Rattle.fixed.specs.Clip.{clip};
@@ -122,7 +124,7 @@ pub fn msu(sum: i32, a: i16, b: i16) -> i32
 }
 
 // A sum with the standard's Overflow: whether the product or the sum was clipped.
-#[derive(Drop)]
+#[derive(Clone, Copy)]
 pub struct Flagged {
     pub value: i32,
     pub overflow: bool,
@@ -174,7 +176,7 @@ pub fn deposit_high(v: i16) -> i32
 // ---- A long as two halves: the high word and the 15 bits below it.
 
 #[repr(C)]
-#[derive(Drop)]
+#[derive(Clone, Copy)]
 pub struct Halves {
     pub high: i16,
     pub low: i16,

@@ -1,4 +1,6 @@
 // The gain row, TS 26.073 Qua_gain at 7.4 kbit/s, from gain/quantization.rs: the entry, over the limit, the coefficients and the choice of a row.
+#![tactic(auto)]
+
 ghost use Rattle.std.specs.Prelude.{◌≡◌};
 ghost use Rattle.gain_limit.specs.Limits.{limit-number};
 ghost use Rattle.gain_choice.specs.Rows.{nearest-row};
@@ -19,13 +21,13 @@ const MAX_EXPONENT: i16 = 127;
 
 const GCODE0_EXPONENT: u8 = 14;
 
-#[derive(Drop)]
+#[derive(Clone, Copy)]
 pub struct QuantizedGain {
     pub index: u16,
     pub row: GainRow,
 }
 
-#[derive(Drop)]
+#[derive(Clone, Copy)]
 pub enum Quantized {
     Row(QuantizedGain),
     Refused(Refusal),

@@ -1,4 +1,6 @@
 // The row of the table that is nearest, TS 26.073 Qua_gain's search at 7.4 kbit/s, from gain/quantization.rs.
+#![tactic(auto)]
+
 ghost use Rattle.std.specs.Prelude.{◌≡◌, [], ◌∷◌, ℕ, ◌<◌, ◌≤◌, pos, nat_abs};
 ghost use Rattle.std.specs.Int.Signed.{le_z};
 ghost use Rattle.fixed.specs.Operators.{mult, Mpy-32-16};

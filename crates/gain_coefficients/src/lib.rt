@@ -1,4 +1,6 @@
 // The coefficients of a row's distance, TS 26.073 calc_filt_energies and the scaling of Qua_gain at 7.4 kbit/s, from gain/quantization.rs.
+#![tactic(auto)]
+
 ghost use Rattle.std.specs.Prelude.{◌≡◌, cond, [], ◌∷◌};
 ghost use Rattle.std.specs.Int.Signed.{lt_z};
 ghost use Rattle.gain_sums.specs.Sums.{sum};
@@ -28,7 +30,7 @@ pub fn coefficients(
     )
 }
 
-#[derive(Drop)]
+#[derive(Clone, Copy)]
 struct Coefficient {
     fraction: i16,
     exponent: i16,

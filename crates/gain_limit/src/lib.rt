@@ -1,16 +1,18 @@
 // The limit of the pitch gain, from gain/quantization.rs: a choice, and the greatest pitch gain under it.
+#![tactic(auto)]
+
 ghost use Rattle.std.specs.Prelude.{◌≡◌};
 ghost use Rattle.gain_limit.specs.Limits.{limit-number, gp-limit, told-limit, limit-choice};
 
 use refusal::Refusal;
 
-#[derive(Drop)]
+#[derive(Clone, Copy)]
 pub enum GainLimit {
     Unrestricted,
     Resonance,
 }
 
-#[derive(Drop)]
+#[derive(Clone, Copy)]
 pub enum LimitChoice {
     Limit(GainLimit),
     Refused(Refusal),

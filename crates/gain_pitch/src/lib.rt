@@ -1,4 +1,6 @@
 // The pitch gain, TS 26.073 G_pitch, from gain/quantization.rs: the gain, and the normalised energy and correlation from which the gain row is chosen.
+#![tactic(auto)]
+
 ghost use Rattle.std.specs.Prelude.{◌≡◌};
 ghost use Rattle.gain_pitch.specs.Gains.{normalized, energy, correlation, gain, G-pitch, told-gain, pitch-gain};
 
@@ -13,7 +15,7 @@ const MIN_POSITIVE_CORRELATION: i16 = 4;
 const CORRELATION_EXPONENT: i16 = 15;
 
 // The standard's g_coeff beside the gain: each number is a word by two to its exponent.
-#[derive(Drop)]
+#[derive(Clone, Copy)]
 pub struct PitchGain {
     pub gain_q14: i16,
     pub yy: i16,
@@ -23,7 +25,7 @@ pub struct PitchGain {
 }
 
 // What `pitch_gain` answers.
-#[derive(Drop)]
+#[derive(Clone, Copy)]
 pub enum FoundGain {
     Gain(PitchGain),
     Refused(Refusal),
@@ -56,7 +58,7 @@ pub fn g_pitch(target: &[i16; 40], adaptive: &[i16; 40]) -> PitchGain
 }
 
 // A long with its highest bit brought up, as a word, and by how many places, less those that a sum made anew takes off.
-#[derive(Drop)]
+#[derive(Clone, Copy)]
 struct ScaledWord {
     word: i16,
     exponent: i16,

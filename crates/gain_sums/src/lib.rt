@@ -1,5 +1,7 @@
 // The sums of the gain row, TS 26.073 G_pitch and calc_filt_energies, from gain/quantization.rs: 40 doubled products from 1 on, clipped one by one, and whether a step
 // was clipped.
+#![tactic(auto)]
+
 ghost use Rattle.std.specs.Prelude.{true, false, ◌≡◌, ℕ, ◌*◌, ◌<◌, ◌≤◌, nat_abs};
 ghost use Rattle.fixed.specs.Lists.{at};
 ghost use Rattle.gain_sums.specs.Sums.{sum, overflow, flagged-sum};

@@ -1,5 +1,7 @@
 // TS 26.073 table_gain_highrates, from gain.rs: 128 rows of pitch gain Q14, correction of the innovation's gain Q12, and the quantised energy Q10 that
 // IS-641 predicts from. It is a crate of its own so that no other pays for checking it.
+#![tactic(auto)]
+
 ghost use Rattle.std.specs.Prelude.{◌≡◌, ◌<◌};
 ghost use Rattle.gain_table.specs.Rows.{table, row, column, pitches, corrections};
 
@@ -138,7 +140,7 @@ const TABLE: [[i16; 3]; 128] = [
     [18842, 32764, 18494],
 ];
 
-#[derive(Drop)]
+#[derive(Clone, Copy)]
 pub struct GainRow {
     pub pitch_q14: i16,
     pub correction_q12: i16,

@@ -1,4 +1,6 @@
 // The lag reader, the receiver's side of the closed loop: our own, over the index rules of pitch.rs.
+#![tactic(auto)]
+
 ghost use Rattle.std.specs.Prelude.{◌≡◌};
 ghost use Rattle.refusal.specs.Refused.{values, turned_down};
 ghost use Rattle.pitch.specs.Kinds.{following};
@@ -10,20 +12,20 @@ use refusal::Refusal;
 const MAX_DELTA_INDEX: u8 = 31;
 
 // The lag reader: the lag that it read last, and the subframe that it expects.
-#[derive(Drop)]
+#[derive(Clone, Copy)]
 pub struct Reader {
     pub previous: PitchLag,
     pub next: Subframe,
 }
 
 // What `read` answers.
-#[derive(Drop)]
+#[derive(Clone, Copy)]
 pub enum Reading {
     Lag(PitchLag),
     Refused(Refusal),
 }
 
-#[derive(Drop)]
+#[derive(Clone, Copy)]
 pub struct ReaderStep {
     pub reading: Reading,
     pub reader: Reader,

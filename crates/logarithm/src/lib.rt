@@ -1,4 +1,6 @@
 // TS 26.073 Log2 and Pow2, from logarithm.rs: a table of 33 entries and a straight line between two of them.
+#![tactic(auto)]
+
 ghost use Rattle.std.specs.Prelude.{◌≡◌, ◌<◌, ◌≤◌, ◌^◌, pos};
 ghost use Rattle.logarithm.specs.Logarithms.{Log2, log2-of};
 ghost use Rattle.logarithm.specs.Powers.{shr-r, power, told, Pow2};
@@ -19,7 +21,7 @@ const POW2_TABLE: [u16; 33] = [
 
 // The logarithm to base 2: a whole number and a fraction of 15 bits.
 #[repr(C)]
-#[derive(Drop)]
+#[derive(Clone, Copy)]
 pub struct Logarithm {
     pub exponent: u8,
     pub fraction_q15: u16,
@@ -53,7 +55,7 @@ fn positive_log2(u: u32) -> Logarithm
 }
 
 // What `pow2` answers.
-#[derive(Drop)]
+#[derive(Clone, Copy)]
 pub enum Power {
     Value(i32),
     Refused(Refusal),

@@ -17,7 +17,7 @@ use refusal::Refusal;
 
 // The answer, and the state after it.
 #[repr(C)]
-#[derive(Drop)]
+#[derive(Clone, Copy)]
 pub struct PitchAnswer {
     pub number: u8,
     pub magnitude: u64,

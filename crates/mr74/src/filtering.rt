@@ -8,7 +8,7 @@ use encoder_filtering::Filtering;
 use refusal::Refusal;
 
 #[repr(C)]
-#[derive(Drop)]
+#[derive(Clone, Copy)]
 pub struct LengthAnswer {
     pub number: u8,
     pub magnitude: u64,

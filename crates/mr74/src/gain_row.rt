@@ -8,7 +8,7 @@ use gain::Quantized;
 use gain_pitch::FoundGain;
 
 #[repr(C)]
-#[derive(Drop)]
+#[derive(Clone, Copy)]
 pub struct PitchGainAnswer {
     pub number: u8,
     pub magnitude: u64,
@@ -56,7 +56,7 @@ fn pitch_gain_answer(answer: FoundGain) -> PitchGainAnswer
 }
 
 #[repr(C)]
-#[derive(Drop)]
+#[derive(Clone, Copy)]
 pub struct GainAnswer {
     pub number: u8,
     pub negative: bool,

@@ -8,7 +8,7 @@ use pitch::{OpenLoop, OpenLoopLag};
 use refusal::Refusal;
 
 #[repr(C)]
-#[derive(Drop)]
+#[derive(Clone, Copy)]
 pub struct OpenLoopAnswer {
     pub number: u8,
     pub magnitude: u64,

@@ -7,7 +7,7 @@ ghost use Rattle.mr74.specs.Powers.{power-answer};
 use logarithm::{Logarithm, Power};
 
 #[repr(C)]
-#[derive(Drop)]
+#[derive(Clone, Copy)]
 pub struct PowerAnswer {
     pub number: u8,
     pub negative: bool,

@@ -9,7 +9,7 @@ use codebook_search::Pulses;
 use codebook_sharpening::SharpeningGain;
 
 #[repr(C)]
-#[derive(Drop)]
+#[derive(Clone, Copy)]
 pub struct PulsesAnswer {
     pub number: u8,
     pub magnitude: u64,
@@ -65,7 +65,7 @@ fn pulses_answer(answer: Pulses) -> PulsesAnswer
 }
 
 #[repr(C)]
-#[derive(Drop)]
+#[derive(Clone, Copy)]
 pub struct PlacesAnswer {
     pub number: u8,
     pub magnitude: u64,

@@ -6,7 +6,7 @@ ghost use Rattle.mr74.specs.Records.{record-answer};
 use feed::Header;
 
 #[repr(C)]
-#[derive(Drop)]
+#[derive(Clone, Copy)]
 pub struct RecordAnswer {
     pub number: u8,
     pub magnitude: u64,

@@ -15,7 +15,7 @@ use selection::LentStep;
 use selection_answers::{Answer, Fields};
 
 #[repr(C)]
-#[derive(Drop)]
+#[derive(Clone, Copy)]
 pub struct StepAnswer {
     pub number: u8,
     pub negative: bool,

@@ -1,4 +1,6 @@
 // The open-loop lag, TS 26.073 Pitch_ol at 7.4 kbit/s without DTX, from pitch/open_loop.rs.
+#![tactic(auto)]
+
 ghost use Rattle.std.specs.Prelude.{◌≡◌, length};
 ghost use Rattle.fixed.specs.Lists.{part};
 ghost use Rattle.pitch.specs.Kinds.{told-lag};
@@ -14,12 +16,12 @@ const HISTORY_SAMPLES: usize = 143;
 const INPUT_SAMPLES: usize = 223;
 
 // The detector: the last 143 words, as they came in.
-#[derive(Drop)]
+#[derive(Clone, Copy)]
 pub struct Detector {
     pub history_q0: [i16; 143],
 }
 
-#[derive(Drop)]
+#[derive(Clone, Copy)]
 pub struct DetectorStep {
     pub lag: OpenLoop,
     pub detector: Detector,

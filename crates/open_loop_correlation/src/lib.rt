@@ -1,4 +1,6 @@
 // The correlations of the open-loop lag, TS 26.073 comp_corr, from pitch/open_loop.rs.
+#![tactic(auto)]
+
 ghost use Rattle.std.specs.Prelude.{true, ◌≡◌, ◌+◌, ◌-◌, ◌≤◌, ◌<◌, pos};
 ghost use Rattle.std.specs.Int.Signed.{lt_z};
 ghost use Rattle.open_loop_correlation.specs.Correlations.{products, energy-from, correlation, by-lag};
@@ -94,7 +96,7 @@ fn clipped_table(words: &[i16; 223]) -> [i32; 144]
 }
 
 // The correlations of four neighbouring lags.
-#[derive(Drop)]
+#[derive(Clone, Copy)]
 struct Four {
     a: i32,
     b: i32,

@@ -1,4 +1,6 @@
 // The open-loop lag of a list of words, TS 26.073 Pitch_ol at 7.4 kbit/s without DTX, from pitch/open_loop.rs: scaling, and the three sections.
+#![tactic(auto)]
+
 ghost use Rattle.std.specs.Prelude.{cond, ◌≡◌, ◌+◌, ◌≤◌, pos};
 ghost use Rattle.std.specs.Int.Signed.{lt_z};
 ghost use Rattle.fixed.specs.Operators.{mult};
@@ -58,7 +60,7 @@ fn of_sections(words: &[i16; 223], table: &[i32; 144]) -> usize
 }
 
 // A lag and its value.
-#[derive(Drop)]
+#[derive(Clone, Copy)]
 struct Held {
     lag: usize,
     value: i16,

@@ -1,4 +1,6 @@
 // Pitch lags, from pitch.rs: the kinds of lag, the search windows, and the index rules in both directions.
+#![tactic(auto)]
+
 ghost use Rattle.std.specs.Prelude.{◌≡◌};
 ghost use Rattle.pitch.specs.Kinds.{thirds, from_zero, fresh-lag, subframe-number, absolute, following, told-lag, try-lag};
 ghost use Rattle.pitch.specs.Windows.{absolute-start, relative-start, handset};
@@ -22,7 +24,7 @@ const INTEGER_INDEX_BIAS: u32 = 112;
 const ABSOLUTE_INDEX_BIAS: u32 = 59;
 
 // Thirds of a sample.
-#[derive(Drop)]
+#[derive(Clone, Copy)]
 pub enum Fraction {
     MinusThird,
     Zero,
@@ -62,7 +64,7 @@ impl Fraction {
     }
 }
 
-#[derive(Drop)]
+#[derive(Clone, Copy)]
 pub enum Subframe {
     One,
     Two,
@@ -107,11 +109,11 @@ impl Subframe {
 }
 
 // A lag that the open loop may answer: made by `try_new` alone.
-#[derive(Drop)]
+#[derive(Clone, Copy)]
 pub struct OpenLoopLag(u16);
 
 // What `try_new` answers.
-#[derive(Drop)]
+#[derive(Clone, Copy)]
 pub enum OpenLoop {
     Lag(OpenLoopLag),
     Refused(Refusal),
@@ -142,7 +144,7 @@ impl OpenLoopLag {
 }
 
 // Whole samples and a fraction of one.
-#[derive(Drop)]
+#[derive(Clone, Copy)]
 pub struct PitchLag {
     pub samples: u16,
     pub fraction: Fraction,

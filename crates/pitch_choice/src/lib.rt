@@ -1,4 +1,6 @@
 // The choice of a lag and a fraction by the normalised correlations, TS 26.073 Pitch_fr at 7.4 kbit/s, from pitch/search.rs.
+#![tactic(auto)]
+
 ghost use Rattle.std.specs.Prelude.{◌≡◌, ◌+◌, ◌<◌, ◌≤◌};
 ghost use Rattle.pitch_choice.specs.Choices.{interpolator, Interpol-6, step_value, best-lag, best-step, settled, chosen, choose};
 

@@ -1,4 +1,6 @@
 // TS 26.073 Convolve, from pitch/search.rs.
+#![tactic(auto)]
+
 ghost use Rattle.std.specs.Prelude.{◌≡◌};
 ghost use Rattle.pitch_convolution.specs.Filters.{Convolve, told-convolution, convolve};
 
@@ -7,7 +9,7 @@ use refusal::Refusal;
 const SUBFRAME_SAMPLES: usize = 40;
 
 // What `convolve` answers.
-#[derive(Drop)]
+#[derive(Clone, Copy)]
 pub enum Convolution {
     Written,
     Refused(Refusal),

@@ -1,4 +1,6 @@
 // The normalised correlations of the closed-loop pitch search, TS 26.073 Norm_Corr, from pitch/search.rs.
+#![tactic(auto)]
+
 ghost use Rattle.std.specs.Prelude.{true, cond, ◌≡◌, ◌+◌, ◌-◌, ◌*◌, ◌/◌, ◌^◌, ◌<◌, ◌≤◌, min, leb, pos, nat_abs, length};
 ghost use Rattle.std.specs.Int.Signed.{lt_z};
 ghost use Rattle.fixed.specs.Operators.{L-shl, extract-h, Mpy-32};

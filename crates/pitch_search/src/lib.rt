@@ -1,4 +1,6 @@
 // The closed-loop pitch search, TS 26.073 Pitch_fr at 7.4 kbit/s, from pitch/search.rs.
+#![tactic(auto)]
+
 ghost use Rattle.std.specs.Prelude.{◌≡◌};
 ghost use Rattle.refusal.specs.Refused.{values, turned_down};
 ghost use Rattle.pitch.specs.Kinds.{following};
@@ -11,27 +13,27 @@ const SUBFRAME_SAMPLES: usize = 40;
 
 const EXCITATION_SAMPLES: usize = 194;
 
-#[derive(Drop)]
+#[derive(Clone, Copy)]
 pub struct SearchedPitch {
     pub lag: PitchLag,
     pub index: u8,
 }
 
 // What `search` answers.
-#[derive(Drop)]
+#[derive(Clone, Copy)]
 pub enum Found {
     Pitch(SearchedPitch),
     Refused(Refusal),
 }
 
 // The searcher: the lag that it sent last, and the subframe that it expects.
-#[derive(Drop)]
+#[derive(Clone, Copy)]
 pub struct Search {
     pub previous: PitchLag,
     pub next: Subframe,
 }
 
-#[derive(Drop)]
+#[derive(Clone, Copy)]
 pub struct SearchStep {
     pub found: Found,
     pub searcher: Search,

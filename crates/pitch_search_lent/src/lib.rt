@@ -1,4 +1,6 @@
 // The closed-loop pitch search over a lent searcher: a thin entry over the by-value search.
+#![tactic(auto)]
+
 ghost use Rattle.std.specs.Prelude.{◌≡◌};
 ghost use Rattle.pitch_search.specs.Searches.{told, Pitch-fr};
 

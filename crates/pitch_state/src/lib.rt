@@ -1,4 +1,6 @@
 // A searcher or a lag reader as the numbers that cross to Rust and C. A refused call hands back the numbers that were given, whatever they are.
+#![tactic(auto)]
+
 ghost use Rattle.std.specs.Prelude.{◌≡◌};
 ghost use Rattle.refusal.specs.Refused.{values, refused};
 ghost use Rattle.refusal.specs.Checks.{checked, within};
@@ -14,7 +16,7 @@ use refusal::Refusal;
 
 // The previous whole lag, its fraction in thirds, the subframe expected next.
 #[repr(C)]
-#[derive(Drop)]
+#[derive(Clone, Copy)]
 pub struct PitchState {
     pub samples: u16,
     pub fraction: i16,
@@ -95,7 +97,7 @@ fn subframe_of(number: u8) -> Subframe
 
 // ---- The checks that come before the stage's own.
 
-#[derive(Drop)]
+#[derive(Clone, Copy)]
 pub enum Known {
     All,
     Refused(Refusal),
@@ -143,7 +145,7 @@ fn known_call(
 
 // ---- The calls.
 
-#[derive(Drop)]
+#[derive(Clone, Copy)]
 pub struct StateSearch {
     pub found: Found,
     pub state: PitchState,
@@ -184,7 +186,7 @@ pub fn search(
     }
 }
 
-#[derive(Drop)]
+#[derive(Clone, Copy)]
 pub struct StateReading {
     pub reading: Reading,
     pub state: PitchState,

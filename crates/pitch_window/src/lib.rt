@@ -1,4 +1,6 @@
 // A search's window and the choice in it, TS 26.073 Pitch_fr at 7.4 kbit/s, from pitch/search.rs.
+#![tactic(auto)]
+
 ghost use Rattle.std.specs.Prelude.{◌≡◌, ◌+◌, ◌≤◌};
 ghost use Rattle.pitch_window.specs.Windows.{start_of, span_of, pitch-in};
 

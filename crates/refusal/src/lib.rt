@@ -1,8 +1,10 @@
 // 01, 'What is turned down', and the numbers of 02: one case for each thing that can be wrong, with its detail.
+#![tactic(auto)]
+
 ghost use Rattle.std.specs.Prelude.{◌≡◌, pos};
 ghost use Rattle.refusal.specs.Refused.{number, detail, sign-magnitude};
 
-#[derive(Drop)]
+#[derive(Clone, Copy)]
 pub enum Refusal {
     // 1: the length of a lent list
     Length(usize),
@@ -31,7 +33,7 @@ pub enum Refusal {
 }
 
 // A detail is a length, as large as a list can be, or a number that may be negative.
-#[derive(Drop)]
+#[derive(Clone, Copy)]
 pub struct Detail {
     pub negative: bool,
     pub magnitude: u64,

@@ -1,5 +1,7 @@
 // Replays recorded inputs of the operators and of the stages whose answers are not all fields of a line, and prints what the library answers. `stdin` and `stdout` are made by `oracle/run
 // record` from the published Rust, so the check that the output equals `stdout` compares the library with it.
+#![tactic(auto)]
+
 mod gain_rows;
 mod operators;
 mod pulses;

@@ -6,7 +6,7 @@ use refusal::Refusal;
 const WORDS: usize = 255;
 
 // The words of a record, zeros behind them; not whole where the input has fewer, or a record can't have so many.
-#[derive(Drop)]
+#[derive(Clone, Copy)]
 pub(crate) struct List {
     pub(crate) whole: bool,
     pub(crate) words: [i16; 255],

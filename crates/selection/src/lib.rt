@@ -1,4 +1,6 @@
 // One step on a feed record, from 01, 'Feed and program': searcher and reader by value, the detector's old words and those of `filter` lent.
+#![tactic(auto)]
+
 ghost use Rattle.std.specs.Prelude.{List, ◌≡◌, ◌≤◌, ℤ};
 ghost use Rattle.selection.specs.Steps.{selection-of, told-lent, of-kind, step-lent};
 
@@ -7,7 +9,7 @@ use lag_reader::Reader;
 use pitch_search::Search;
 use selection_answers::Answer;
 
-#[derive(Drop)]
+#[derive(Clone, Copy)]
 pub struct LentStep {
     pub answer: Answer,
     pub searcher: Search,

@@ -1,4 +1,6 @@
 // What a record answers, with the fields that the program prints, from 01, 'Feed and program'.
+#![tactic(auto)]
+
 ghost use Rattle.std.specs.Prelude.{List, [], ◌≡◌, ℤ};
 ghost use Rattle.refusal.specs.Refused.{put, turned_down};
 ghost use Rattle.pitch.specs.Kinds.{told-lag};
@@ -20,7 +22,7 @@ use refusal::Refusal;
 // Thirds of a sample in a second.
 const THIRDS_PER_SECOND: u32 = 24000;
 
-#[derive(Drop)]
+#[derive(Clone, Copy)]
 pub enum Answer {
     // No record: the feed ends there, or a body has not its kind's length.
     End,
@@ -113,7 +115,7 @@ fn hertz(lag: PitchLag) -> u16
 
 // ---- An answer in numbers: `number` is 0, or a refusal's with its detail.
 
-#[derive(Drop)]
+#[derive(Clone, Copy)]
 pub struct Fields {
     pub number: u8,
     pub negative: bool,

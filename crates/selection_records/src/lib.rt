@@ -1,5 +1,7 @@
 // What a record of each kind but the reset answers, from 01, 'Feed and program': its body's words through the stage, and the answer as a line.
 // A body that has not the kind's length is no record: `Answer::End`, and nothing changes.
+#![tactic(auto)]
+
 ghost use Rattle.std.specs.Prelude.{List, ◌≡◌, ◌+◌, ◌*◌, ◌≤◌, ◌<◌, ℤ, length};
 ghost use Rattle.fixed.specs.Lists.{at};
 ghost use Rattle.encoder_filtering.specs.Subframes.{lists, prepare};
@@ -33,7 +35,7 @@ pub fn half_frame_record(history_q0: &mut [i16; 143], body: &[u8]) -> Answer
     selection_answers::open_answer(lag)
 }
 
-#[derive(Drop)]
+#[derive(Clone, Copy)]
 pub struct PitchRecord {
     pub answer: Answer,
     pub searcher: Search,
@@ -227,7 +229,7 @@ fn joined_at(
     error[i - 120]
 }
 
-#[derive(Drop)]
+#[derive(Clone, Copy)]
 pub struct LagRecord {
     pub answer: Answer,
     pub reader: Reader,

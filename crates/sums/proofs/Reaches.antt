@@ -102,7 +102,7 @@ pub reach-reversed : (y : ℕ → ℤ) (n : ℕ) → reach (λ k. y (n - k)) (su
 unfolding reach
 reach-reversed y zero = refl
 reach-reversed y (suc n) =
-    let e : reach (λ k. y (suc n - suc k)) (suc n) ≡ reach (λ k. y (n - k)) (suc n) = reach-same _ _ (suc n) (λ k h. ap y (omega arith)) in
+    let e : reach (λ k. y (suc n - suc k)) (suc n) ≡ reach (λ k. y (n - k)) (suc n) = reach-same _ _ (suc n) (λ k h. let d : suc n - suc k ≡ n - k = omega arith in ap y d) in
     let f : nat_abs (y (suc n - 0)) ≡ nat_abs (y (suc n)) = ap (λ (k : ℕ). nat_abs (y k)) (omega arith) in
     reach-front (λ k. y (suc n - k)) (suc n) ∙ omega (arith, e, f, reach-reversed y n)
 

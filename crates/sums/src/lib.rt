@@ -1,4 +1,6 @@
 // Lists of 40 words, a subframe: sums over them, shifted, copied.
+#![tactic(auto)]
+
 ghost use Rattle.std.specs.Prelude.{true, ◌≡◌, ℕ, suc, ◌+◌, ◌-◌, ◌*◌, ◌^◌, ◌<◌, ◌≤◌, min, max, pos, nat_abs, ◌*ℤ◌, replicate};
 ghost use Rattle.fixed.specs.Lists.{at, tabulate, between, dot, shifted, copied};
 ghost use Rattle.sums.specs.Plain.{plain, squared, peak, reach, weighed};
@@ -43,7 +45,7 @@ fn square(v: i16) -> u32
 }
 
 #[repr(C)]
-#[derive(Drop)]
+#[derive(Clone, Copy)]
 pub struct EnergyAndSum {
     pub energy: i32,
     pub sum: i32,

@@ -1,4 +1,6 @@
 // The synthesis filter 1 / A(z), TS 26.073 Syn_filt: `preview` of synthesis.rs.
+#![tactic(auto)]
+
 ghost use Rattle.std.specs.Prelude.{◌≡◌, ◌+◌, ◌^◌, ◌≤◌, ◌<◌, nat_abs, ◌*ℤ◌, length};
 ghost use Rattle.fixed.specs.Operators.{L-mult};
 ghost use Rattle.fixed.specs.Lists.{at, part};

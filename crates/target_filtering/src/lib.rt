@@ -1,4 +1,6 @@
 // The four lists of target filtering, TS 26.073 subframePreProc at 7.4 kbit/s, from `prepare` of encoder_filtering.rs.
+#![tactic(auto)]
+
 ghost use Rattle.std.specs.Prelude.{◌≡◌, length};
 ghost use Rattle.fixed.specs.Lists.{part};
 ghost use Rattle.target_filtering.specs.Subframes.{impulse-response, target-of, subframePreProc, prepared};
@@ -17,7 +19,7 @@ const GAMMA_ONE_Q15: [i16; 10] = [
 
 const GAMMA_TWO_Q15: [i16; 10] = [19661, 11797, 7078, 4247, 2548, 1529, 917, 550, 330, 198];
 
-#[derive(Drop)]
+#[derive(Clone, Copy)]
 pub struct PreparedSubframe {
     pub residual_q0: [i16; 40],
     pub impulse_q12: [i16; 40],
