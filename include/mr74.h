@@ -1,7 +1,7 @@
 /*
  * The selection stages of the MR74 (7.4 kbit/s) speech encoder, for C.
  *
- * Link with libmr74.a, which `rt staticlib mr74` writes to target/staticlib (x86-64 Linux). Every
+ * Link with libmr74.a, which `./build mr74` writes to target/staticlib (x86-64 Linux). Every
  * function is proved to end and to answer by its definition, for all lists and numbers. None keeps
  * state of its own, takes memory or reads and writes files, so any thread may call them.
  *

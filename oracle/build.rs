@@ -458,7 +458,7 @@ fn link_leaves(oracle: &Path) {
     let archive = folder.join("libmr74_leaves.a");
     if !archive.is_file() {
         panic!(
-            "{} is missing: `rt staticlib mr74_leaves` builds it (oracle/run does), or set \
+            "{} is missing: `./build mr74_leaves` builds it (oracle/run does), or set \
              MR74_LIB to a folder that has it",
             archive.display()
         );

@@ -17,7 +17,7 @@ fn main() {
     println!("cargo:rerun-if-changed={}", archive.display());
     if !archive.is_file() {
         eprintln!(
-            "{} is missing: `rt staticlib mr74` in the repository's root builds it, or set \
+            "{} is missing: `./build mr74` in the repository's root builds it, or set \
              MR74_LIB to a folder that has it",
             archive.display()
         );
