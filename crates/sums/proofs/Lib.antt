@@ -6,3 +6,4 @@ pub mod Quiet
 pub mod Reaches
 pub mod Reversals
 pub mod Walks
+pub mod Halves

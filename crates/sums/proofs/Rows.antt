@@ -8,8 +8,8 @@ use lib.Dec.{leb, ltb}
 use lib.IntN.{ℤ, pos}
 use lib.ListN.{replicate}
 use borrow.Author.Tests.{le-leb, ltb-false}
-use Rattle.fixed.specs.Operators.{L-add}
-use Rattle.fixed.specs.Lists.{between, L-sum}
+use Rattle.fixed.specs.Operators.{L-add, L-mult}
+use Rattle.fixed.specs.Lists.{at, between, L-sum}
 use Rattle.fixed.proofs.Lists.{Filled, zeros}
 
 module _ (g : ℕ → ℕ → ℤ) (count : ℕ → ℕ) where
@@ -53,3 +53,8 @@ pub waiting : (n k i : ℕ) → i < n → (leb 0 i && ltb i (n - k)) ≡ false �
 waiting n k i h q =
     let e = rw (le-leb 0 i (omega arith)) at q in
     omega (arith, ltb-false i (n - k) e)
+
+-- ---- the sums of Convolve
+-- term i of the sum at place n, which has n + 1 terms
+abbrev pub term : List ℤ → List ℤ → ℕ → ℕ → ℤ
+term xs hs n i = L-mult (at xs i) (at hs (n - i))

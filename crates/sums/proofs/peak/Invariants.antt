@@ -1,0 +1,7 @@
+use Rattle.std.proofs.Common.{◌≡◌}
+use Rattle.fixed.specs.Lists.{at}
+use Rattle.sums.specs.Plain.{peak}
+use Rattle.sums.proofs.peak.Given as goal
+
+abbrev pub invariant-loop-i : goal.invariant-loop-i
+invariant-loop-i l = l.most ≡ peak (at l.list) l.i
