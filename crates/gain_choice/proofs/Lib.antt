@@ -2,3 +2,4 @@
 pub mod Leasts
 pub mod Terms
 pub mod Chosen
+pub mod Codes
