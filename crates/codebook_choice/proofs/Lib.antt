@@ -5,3 +5,4 @@ pub mod Energies
 pub mod Tracks
 pub mod Starting
 pub mod Trials
+pub mod Places

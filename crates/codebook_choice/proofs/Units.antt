@@ -11,7 +11,6 @@ use mir.Syntax.{Width, w32}
 use mir.Val.{SFits, to_z, of_z}
 use mir.Facts.{to_z-of_z}
 use Rattle.sums.proofs.Plain.{middle}
-use Rattle.fixed.specs.Clip.{clip}
 use Rattle.fixed.specs.Operators.{L-add, L-mult, L-mac, extract-h, round}
 use Rattle.fixed.proofs.Bounds.{either}
 use Rattle.fixed.proofs.Clips.{clip-id}

@@ -1,0 +1,42 @@
+use mathlib.Core.Path.{sym}
+use native.Mathlib.Omega.{arith}
+use lib.IntN.{ℤ, pos, ◌+ℤ◌, ◌*ℤ◌}
+use lib.Signed.{shr_z}
+use mir.Syntax.{w16, w32}
+use mir.Val.{SFits}
+use mir.Facts.{to_z-of_z}
+use Rattle.fixed.proofs.Bounds.{ok, fits-16-32, sum-32, shift_fits}
+use Rattle.codebook_choice.proofs.Units.{within-32, within-4, within_more}
+use Rattle.codebook_choice.proofs.Energies.{second-sum, second-rounded, second_plain, twice-fits}
+use Rattle.codebook_choice.proofs.second_energy.Goals as goal
+
+-- what the locals hold
+module _ (base own a : ℤ) (f : SFits w16 base) (g : SFits w16 own) (h : SFits w16 a) where
+  sum_fits : SFits w32 (base +ℤ own +ℤ pos 2 *ℤ a)
+  sum_fits = within-32 131072 131068 (base +ℤ own +ℤ pos 2 *ℤ a) (second-sum base own f.sfits g.sfits a h.sfits) (omega arith) (omega arith)
+
+  all-fits : SFits w32 (base +ℤ own +ℤ pos 2 *ℤ a +ℤ pos 2)
+  all-fits = within-32 131072 131070 (base +ℤ own +ℤ pos 2 *ℤ a +ℤ pos 2) (second-rounded base own f.sfits g.sfits a h.sfits) (omega arith) (omega arith)
+
+  word_fits : SFits w16 (shr_z (base +ℤ own +ℤ pos 2 *ℤ a +ℤ pos 2) 4)
+  word_fits =
+      ok w16 (shr_z (base +ℤ own +ℤ pos 2 *ℤ a +ℤ pos 2) 4)
+      (within-4 (base +ℤ own +ℤ pos 2 *ℤ a +ℤ pos 2) (within_more 131072 131070 131072 131071 (base +ℤ own +ℤ pos 2 *ℤ a +ℤ pos 2) (second-rounded base own f.sfits g.sfits a h.sfits) (omega arith) (omega arith)))
+
+pub overflow_cast-result-4 : goal.overflow_cast-result-4
+overflow_cast-result-4 c =
+    let f = c.ranges.base in
+    let g = c.ranges.own in
+    let h = c.ranges.cross in
+    let s = all-fits c.args.base c.args.own c.args.cross f g h in
+    rw (to_z-of_z f, to_z-of_z (fits-16-32 f), to_z-of_z g, to_z-of_z (fits-16-32 g), to_z-of_z (sum-32 f g), to_z-of_z h, to_z-of_z (fits-16-32 h), to_z-of_z (twice-fits h), to_z-of_z (sum_fits c.args.base c.args.own c.args.cross f g h), to_z-of_z s, to_z-of_z (shift_fits 4 s))
+    (word_fits c.args.base c.args.own c.args.cross f g h)
+
+pub returns : goal.returns
+returns c =
+    let f = c.ranges.base in
+    let g = c.ranges.own in
+    let h = c.ranges.cross in
+    let s = all-fits c.args.base c.args.own c.args.cross f g h in
+    rw (to_z-of_z f, to_z-of_z (fits-16-32 f), to_z-of_z g, to_z-of_z (fits-16-32 g), to_z-of_z (sum-32 f g), to_z-of_z h, to_z-of_z (fits-16-32 h), to_z-of_z (twice-fits h), to_z-of_z (sum_fits c.args.base c.args.own c.args.cross f g h), to_z-of_z s, to_z-of_z (shift_fits 4 s), to_z-of_z (word_fits c.args.base c.args.own c.args.cross f g h))
+    (sym (second_plain c.args.base c.args.own f.sfits g.sfits c.args.cross h.sfits))
