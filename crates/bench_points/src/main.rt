@@ -1,56 +1,43 @@
 // 01, 'Bench points': those that are compared and not proved. `stdout` has what 01 says of each.
 #![tactic(auto)]
 
-use libc::STDOUT_FILENO;
 use logarithm::Power;
 use pitch::{OpenLoop, OpenLoopLag};
+use std::io;
 
-fn main() {
-    io::write_all(STDOUT_FILENO, b"mr74 bench points\n");
-    root(0);
-    root(1);
-    open_loop(19);
-    open_loop(20);
-    open_loop(143);
-    open_loop(144);
-    power(30);
-    power(31);
+// A line that can't be written is missing from the output, which is compared.
+fn main(rt: HostRuntime) {
+    let _ = print(&rt);
 }
 
-fn root(v: i32) {
-    io::write_all(STDOUT_FILENO, b"inverse root of ");
-    print(fixed::unsigned_abs(v));
-    io::write_all(STDOUT_FILENO, b" is ");
-    print(fixed::unsigned_abs(energy::inverse_sqrt(v)));
-    io::write_all(STDOUT_FILENO, b"\n");
+fn print(rt: &impl Print) -> io::Result<()> {
+    println!(rt; "mr74 bench points")?;
+    root(rt, 0)?;
+    root(rt, 1)?;
+    open_loop(rt, 19)?;
+    open_loop(rt, 20)?;
+    open_loop(rt, 143)?;
+    open_loop(rt, 144)?;
+    power(rt, 30)?;
+    power(rt, 31)
 }
 
-fn open_loop(lag: u16) {
-    io::write_all(STDOUT_FILENO, b"open-loop lag ");
-    print(lag as u32);
-    match OpenLoopLag::try_new(lag) {
-        OpenLoop::Lag(_) => {
-            io::write_all(STDOUT_FILENO, b" passes\n");
-        }
-        OpenLoop::Refused(_) => {
-            io::write_all(STDOUT_FILENO, b" is refused\n");
-        }
-    }
+fn root(rt: &impl Print, v: i32) -> io::Result<()> {
+    println!(rt; "inverse root of {v} is {}", energy::inverse_sqrt(v))
 }
 
-fn power(exponent: u8) {
-    io::write_all(STDOUT_FILENO, b"pow2 exponent ");
-    print(exponent as u32);
-    match logarithm::pow2(exponent, 0) {
-        Power::Value(_) => {
-            io::write_all(STDOUT_FILENO, b" passes\n");
-        }
-        Power::Refused(_) => {
-            io::write_all(STDOUT_FILENO, b" does not\n");
-        }
-    }
+fn open_loop(rt: &impl Print, lag: u16) -> io::Result<()> {
+    let answer = match OpenLoopLag::try_new(lag) {
+        OpenLoop::Lag(_) => "passes",
+        OpenLoop::Refused(_) => "is refused",
+    };
+    println!(rt; "open-loop lag {lag} {answer}")
 }
 
-fn print(n: u32) {
-    io::print_decimal(STDOUT_FILENO, n as u64);
+fn power(rt: &impl Print, exponent: u8) -> io::Result<()> {
+    let answer = match logarithm::pow2(exponent, 0) {
+        Power::Value(_) => "passes",
+        Power::Refused(_) => "does not",
+    };
+    println!(rt; "pow2 exponent {exponent} {answer}")
 }
