@@ -19,7 +19,7 @@ use Rattle.fixed.proofs.ByHalves.{product_le}
 use Rattle.sums.specs.Plain.{squared, weighed}
 use Rattle.sums.proofs.Quiet.{weighed-mean, window, squared-le, squared-below}
 use Rattle.sums.proofs.Reaches.{clipped-le}
-use Rattle.energy.proofs.Roots.{Rooted, rooted}
+use Rattle.energy.proofs.Roots.{rooted}
 use Rattle.open_loop_correlation.specs.Correlations.{products, correlation}
 use Rattle.open_loop_correlation.proofs.Energies.{from, energy-at, energy-whole}
 use Rattle.open_loop_sections.specs.Sections.{scaled, scaled-all, delayed-energy, long-at}
