@@ -13,7 +13,6 @@ use Rattle.codebook_target.specs.Starts.{signs_of as set-signs, magnitudes-of, s
 use Rattle.codebook_matrix.specs.Matrices.{cor-h}
 use Rattle.codebook_steps.specs.declared.Trial.{Trial}
 use Rattle.codebook_choice.specs.Choices.{search-4i40}
-use Rattle.codebook_code.specs.declared.PulseWords.{PulseWords}
 use Rattle.codebook_code.specs.declared.SearchResult.{SearchResult}
 
 -- ---- build_code
