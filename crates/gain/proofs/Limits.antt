@@ -1,13 +1,12 @@
 -- 02, request 14: the proofs of the statements on the limit, and their examples computed.
-use mathlib.Core.Path.{◌≡◌, refl, sym, ◌∙◌}
+use mathlib.Core.Path.{◌≡◌, refl, ◌∙◌}
 use mathlib.Core.Bool.{true}
 use mathlib.Core.List.{List}
 use Prim.Native.Nat.{ℕ, ◌<◌, ◌≤◌}
 use native.Mathlib.Omega.{arith}
-use lib.Dec.{ltb}
 use lib.IntN.{ℤ, pos, negsuc, nat_abs}
 use lib.Signed.{le_z}
-use borrow.Author.Tests.{ltb-true, lt-ltb, le-leb}
+use borrow.Author.Tests.{lt-ltb, le-leb}
 use Rattle.refusal.specs.Refused.{values, refused}
 use Rattle.refusal.specs.Checks.{Check}
 use Rattle.refusal.proofs.Checkings.{Passes, passed-all, accepted-all}
@@ -19,7 +18,7 @@ use Rattle.gain_choice.proofs.Leasts.{only_one}
 use Rattle.gain.specs.declared.QuantizedGain.{QuantizedGain}
 use Rattle.gain.specs.Rows.{Qua-gain, gain-checks, quantize}
 use Rattle.gain.specs.Opens.{gain-opens}
-use Rattle.gain.specs.Statement.{Beside, distance-of, Limits-of-the-stage, Answered-too, Limits-of-the-entry, row_of, Examples}
+use Rattle.gain.specs.Statement.{Beside, Limits-of-the-stage, Answered-too, Limits-of-the-entry, row_of, Examples}
 use Rattle.gain.proofs.Chosen.{chosen-row, in-resonance}
 
 -- every row is within the unrestricted limit
