@@ -1,0 +1,28 @@
+use mathlib.Core.Path.{◌≡◌}
+use Rattle.filters.specs.Filters.{Residu}
+use Rattle.filters.proofs.Lengths.{residu-length, filtered-whole}
+use Rattle.synthesis_filter.specs.Synthesis.{with-past, Syn-filt}
+use Rattle.synthesis_filter.proofs.Lengths.{synthesis-whole}
+use Rattle.target_filtering.specs.Subframes.{gamma-one, gamma-two, subframePreProc}
+use Rattle.target_filtering.proofs.subframe.Goals as goal
+
+pub returns : goal.returns
+unfolding subframePreProc gamma-one gamma-two Syn-filt
+returns c =
+    let quantized = c.args.quantized.now in
+    let speech = c.args.speech.now in
+    let past = c.args.error_history.now in
+    let r : c.filtered-residual.result ≡ Residu quantized speech = rw c.filtered-residual.ensures (filtered-whole quantized speech c.requires.2 c.requires.0) in
+    let y : c.synthesis-error.result ≡ with-past quantized (Residu quantized speech) past =
+    rw (c.synthesis-error.ensures, r) (synthesis-whole quantized (Residu quantized speech) past c.requires.2 (residu-length quantized speech) c.requires.3)
+    in
+    rw (
+      c.put_out.ensures,
+      c.target_of.ensures,
+      c.impulse_response.ensures,
+      y,
+      r,
+      c.weight-weighted_two.ensures,
+      c.weight-weighted_one.ensures,
+      c.eleven-unquantized.ensures,
+    )
