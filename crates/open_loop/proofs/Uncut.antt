@@ -16,7 +16,6 @@ use Rattle.open_loop_correlation.specs.Correlations.{correlation}
 use Rattle.open_loop_correlation.proofs.Energies.{from}
 use Rattle.open_loop_sections.specs.Sections.{scaled-all, long-at, value-at}
 use Rattle.open_loop_sections.proofs.Cuts.{long-le, new-le}
-use Rattle.open_loop.specs.declared.Detector.{Detector}
 use Rattle.open_loop.specs.Detectors.{joined_at, joined}
 use Rattle.open_loop.specs.Opens.{open-loop-opens}
 use Rattle.open_loop.specs.Statement.{Words, Cut-changes-nothing, behind, Examples}
