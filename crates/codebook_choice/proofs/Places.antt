@@ -1,4 +1,4 @@
--- What a loop over the eight places of a track finds at each: an energy, or the step from a start.
+-- What a loop over the eight places of a track finds at each: a square, an energy, or the step from a start.
 use mathlib.Core.List.{List}
 use Prim.Native.Nat.{ℕ, ◌+◌, ◌*◌}
 use lib.IntN.{ℤ, pos}
