@@ -2,15 +2,16 @@
 use crate::records;
 use gain::{Quantized, QuantizedGain};
 use gain_pitch::{FoundGain, PitchGain};
-use libc::{STDIN_FILENO, STDOUT_FILENO};
+use std::io::{self, Read, Write};
 
-pub(crate) fn step() -> bool {
+pub(crate) fn step<R: Read, W: Write>(input: &mut R, output: &mut W) -> io::Result<bool> {
     let mut head = [0u8; 8];
-    let got = io::read_full(STDIN_FILENO, &mut head);
-    if got < 8 {
-        return false;
+    if !records::filled(input, &mut head) {
+        return Ok(false);
     }
     replayed(
+        input,
+        output,
         head[0],
         head[1],
         head[2],
@@ -20,36 +21,38 @@ pub(crate) fn step() -> bool {
     )
 }
 
-fn replayed(
+fn replayed<R: Read, W: Write>(
+    input: &mut R,
+    output: &mut W,
     target_words: u8,
     adaptive_words: u8,
     innovation_words: u8,
     exponent: i16,
     fraction: u16,
     limit: u8,
-) -> bool {
+) -> io::Result<bool> {
     let targets = target_words as usize;
     let adaptives = adaptive_words as usize;
     let innovations = innovation_words as usize;
-    let list = records::read(targets + adaptives + innovations);
+    let list = records::read(input, targets + adaptives + innovations);
     if !list.whole {
-        return false;
+        return Ok(false);
     }
-    let words = list.words;
-    let all: &[i16] = &words;
     print_answers(
-        all,
+        output,
+        &list.words,
         targets,
         adaptives,
         innovations,
         exponent,
         fraction,
         limit,
-    );
-    true
+    )?;
+    Ok(true)
 }
 
-fn print_answers(
+fn print_answers<W: Write>(
+    output: &mut W,
     words: &[i16],
     targets: usize,
     adaptives: usize,
@@ -57,53 +60,55 @@ fn print_answers(
     exponent: i16,
     fraction: u16,
     limit: u8,
-) {
+) -> io::Result<()> {
     if words.len() < targets {
-        return;
+        return Ok(());
     }
     if words.len() - targets < adaptives {
-        return;
+        return Ok(());
     }
     let before = targets + adaptives;
     if words.len() - before < innovations {
-        return;
+        return Ok(());
     }
-    print_pitch_gain(&words[0..targets], &words[targets..before]);
+    print_pitch_gain(output, &words[0..targets], &words[targets..before])?;
     print_quantized(
+        output,
         &words[0..targets],
         &words[targets..before],
         &words[before..before + innovations],
         exponent,
         fraction,
         limit,
-    );
+    )
 }
 
-fn print_pitch_gain(target: &[i16], adaptive: &[i16]) {
+fn print_pitch_gain<W: Write>(output: &mut W, target: &[i16], adaptive: &[i16]) -> io::Result<()> {
     match gain_pitch::pitch_gain(target, adaptive) {
-        FoundGain::Gain(found) => print_gain(found),
-        FoundGain::Refused(refusal) => records::print_refused(refusal),
-    }
-    io::write_all(STDOUT_FILENO, b"\n");
+        FoundGain::Gain(found) => print_gain(output, found),
+        FoundGain::Refused(refusal) => records::print_refused(output, refusal),
+    }?;
+    output.write_all(b"\n")
 }
 
-fn print_quantized(
+fn print_quantized<W: Write>(
+    output: &mut W,
     target: &[i16],
     adaptive: &[i16],
     innovation: &[i16],
     exponent: i16,
     fraction: u16,
     limit: u8,
-) {
+) -> io::Result<()> {
     match gain::quantize(target, adaptive, innovation, exponent, fraction, limit) {
-        Quantized::Row(quantized) => print_row(quantized),
-        Quantized::Refused(refusal) => records::print_refused(refusal),
-    }
-    io::write_all(STDOUT_FILENO, b"\n");
+        Quantized::Row(quantized) => print_row(output, quantized),
+        Quantized::Refused(refusal) => records::print_refused(output, refusal),
+    }?;
+    output.write_all(b"\n")
 }
 
-fn print_gain(found: PitchGain) {
-    io::write_all(STDOUT_FILENO, b"pitch_gain");
+fn print_gain<W: Write>(output: &mut W, found: PitchGain) -> io::Result<()> {
+    output.write_all(b"pitch_gain")?;
     let numbers = [
         found.gain_q14,
         found.yy,
@@ -111,13 +116,12 @@ fn print_gain(found: PitchGain) {
         found.xy,
         found.xy_exponent,
     ];
-    records::print_words(&numbers);
+    records::print_words(output, &numbers)
 }
 
-fn print_row(quantized: QuantizedGain) {
-    io::write_all(STDOUT_FILENO, b"gain");
-    records::print_natural(quantized.index as u64);
+fn print_row<W: Write>(output: &mut W, quantized: QuantizedGain) -> io::Result<()> {
+    output.write_all(b"gain")?;
+    records::print_natural(output, quantized.index as u64)?;
     let row = quantized.row;
-    let numbers = [row.pitch_q14, row.correction_q12];
-    records::print_words(&numbers);
+    records::print_words(output, &[row.pitch_q14, row.correction_q12])
 }

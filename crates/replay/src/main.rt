@@ -7,28 +7,34 @@ mod operators;
 mod pulses;
 mod records;
 
-use libc::{STDIN_FILENO, STDOUT_FILENO};
+use std::io::{self, BufReader, BufWriter, Read, Write};
 
-fn main() {
-    io::write_all(STDOUT_FILENO, b"mr74 replay\n");
-    let mut open = true;
-    let mut remaining = u64::MAX;
-    while remaining > 0 && open {
-        open = step();
-        remaining -= 1;
+// An answer that can't be written is missing from the output, which is compared.
+fn main(rt: HostRuntime) {
+    let _ = replay(&rt);
+}
+
+fn replay(rt: &HostRuntime) -> io::Result<()> {
+    let mut input = BufReader::new(rt.alloc(), rt.stdin())?;
+    let mut output = BufWriter::new(rt.alloc(), rt.stdout())?;
+    output.write_all(b"mr74 replay\n")?;
+    for _ in 0..u64::MAX {
+        if !step(&mut input, &mut output)? {
+            break;
+        }
     }
+    output.flush()
 }
 
 // Whether a record may follow. A record: a byte for its kind, and what the kind's file reads. High bytes first.
-fn step() -> bool {
+fn step<R: Read, W: Write>(input: &mut R, output: &mut W) -> io::Result<bool> {
     let mut kind = [0u8; 1];
-    let got = io::read_full(STDIN_FILENO, &mut kind);
-    if got < 1 {
-        return false;
+    if !records::filled(input, &mut kind) {
+        return Ok(false);
     }
     match kind[0] {
-        0 => operators::step(),
-        1 => pulses::step(),
-        _ => gain_rows::step(),
+        0 => operators::step(input, output),
+        1 => pulses::step(input, output),
+        _ => gain_rows::step(input, output),
     }
 }

@@ -2,46 +2,39 @@
 ghost use Rattle.std.specs.Prelude.{◌≤◌};
 
 use crate::records;
-use libc::{STDIN_FILENO, STDOUT_FILENO};
 use logarithm::Power;
+use std::io::{self, Read, Write};
 
 const RECORD: usize = 14;
 
-pub(crate) fn step() -> bool {
+pub(crate) fn step<R: Read, W: Write>(input: &mut R, output: &mut W) -> io::Result<bool> {
     let mut buf = [0u8; RECORD];
-    let got = io::read_full(STDIN_FILENO, &mut buf);
-    if got < RECORD {
-        return false;
+    if !records::filled(input, &mut buf) {
+        return Ok(false);
     }
     let operator = buf[0];
     let a = long_at(&buf, 1);
     let b = long_at(&buf, 5);
     let c = long_at(&buf, 9);
-    print_name(buf[13]);
-    print_arguments(operator, a, b, c);
+    print_name(input, output, buf[13])?;
+    print_arguments(output, operator, a, b, c)?;
     match operator {
-        19 => print_halves(a),
-        26 => records::print_natural(fixed::unsigned_abs(a) as u64),
-        29 => print_log2(a),
-        30 => print_pow2(buf[4], records::unsigned(buf[7], buf[8])),
-        _ => records::print_long(answer(operator, a, b, c)),
-    }
-    io::write_all(STDOUT_FILENO, b"\n");
-    true
+        19 => print_halves(output, a),
+        26 => records::print_natural(output, fixed::unsigned_abs(a) as u64),
+        29 => print_log2(output, a),
+        30 => print_pow2(output, buf[4], records::unsigned(buf[7], buf[8])),
+        _ => records::print_long(output, answer(operator, a, b, c)),
+    }?;
+    output.write_all(b"\n")?;
+    Ok(true)
 }
 
-fn print_name(length: u8) {
+// Zeros stand for the letters that the input has no more.
+fn print_name<R: Read, W: Write>(input: &mut R, output: &mut W, length: u8) -> io::Result<()> {
     let letters = length as usize;
     let mut name = [0u8; 255];
-    io::read_full(STDIN_FILENO, &mut name[0..letters]);
-    print_letters(&name, letters);
-}
-
-fn print_letters(name: &[u8; 255], letters: usize) {
-    let all: &[u8] = name;
-    if letters <= all.len() {
-        io::write_all(STDOUT_FILENO, &all[0..letters]);
-    }
+    records::filled(input, &mut name[..letters]);
+    output.write_all(&name[..letters])
 }
 
 fn long_at(record: &[u8; 14], from: usize) -> i32
@@ -94,36 +87,41 @@ fn answer_of_words(operator: u8, a: i16, b: i16) -> i32 {
     }
 }
 
-fn print_arguments(operator: u8, a: i32, b: i32, c: i32) {
-    records::print_long(a);
+fn print_arguments<W: Write>(
+    output: &mut W,
+    operator: u8,
+    a: i32,
+    b: i32,
+    c: i32,
+) -> io::Result<()> {
+    records::print_long(output, a)?;
     match operator {
-        1 | 5 | 6 | 9 | 10 | 15 | 16 | 17 | 18 | 19 | 24 | 25 | 26 | 28 | 29 => (),
+        1 | 5 | 6 | 9 | 10 | 15 | 16 | 17 | 18 | 19 | 24 | 25 | 26 | 28 | 29 => Ok(()),
         12 | 13 => {
-            records::print_long(b);
-            records::print_long(c);
+            records::print_long(output, b)?;
+            records::print_long(output, c)
         }
-        _ => records::print_long(b),
+        _ => records::print_long(output, b),
     }
 }
 
-fn print_halves(v: i32) {
+fn print_halves<W: Write>(output: &mut W, v: i32) -> io::Result<()> {
     let halves = compound::split(v);
-    records::print_long(records::long(halves.high));
-    records::print_long(records::long(halves.low));
+    records::print_words(output, &[halves.high, halves.low])
 }
 
-fn print_log2(v: i32) {
+fn print_log2<W: Write>(output: &mut W, v: i32) -> io::Result<()> {
     let l = logarithm::log2(v);
-    records::print_natural(l.exponent as u64);
-    records::print_natural(l.fraction_q15 as u64);
+    records::print_natural(output, l.exponent as u64)?;
+    records::print_natural(output, l.fraction_q15 as u64)
 }
 
-fn print_pow2(exponent: u8, fraction_q15: u16) {
+fn print_pow2<W: Write>(output: &mut W, exponent: u8, fraction_q15: u16) -> io::Result<()> {
     match logarithm::pow2(exponent, fraction_q15) {
-        Power::Value(v) => records::print_long(v),
+        Power::Value(v) => records::print_long(output, v),
         Power::Refused(refusal) => {
-            io::write_all(STDOUT_FILENO, b" ");
-            records::print_refused(refusal);
+            output.write_all(b" ")?;
+            records::print_refused(output, refusal)
         }
     }
 }

@@ -4,27 +4,25 @@ use codebook::{Places, PulseReading};
 use codebook_code::PulseWords;
 use codebook_search::Pulses;
 use codebook_sharpening::SharpeningGain;
-use libc::{STDIN_FILENO, STDOUT_FILENO};
+use std::io::{self, Read, Write};
 
 const READING: u8 = 0;
 
-pub(crate) fn step() -> bool {
+pub(crate) fn step<R: Read, W: Write>(input: &mut R, output: &mut W) -> io::Result<bool> {
     let mut kind = [0u8; 1];
-    let got = io::read_full(STDIN_FILENO, &mut kind);
-    if got < 1 {
-        return false;
+    if !records::filled(input, &mut kind) {
+        return Ok(false);
     }
     if kind[0] == READING {
-        return reading();
+        return reading(input, output);
     }
-    search()
+    search(input, output)
 }
 
-fn reading() -> bool {
+fn reading<R: Read, W: Write>(input: &mut R, output: &mut W) -> io::Result<bool> {
     let mut bytes = [0u8; 4];
-    let got = io::read_full(STDIN_FILENO, &mut bytes);
-    if got < 4 {
-        return false;
+    if !records::filled(input, &mut bytes) {
+        return Ok(false);
     }
     let mut samples = [0i16; 40];
     let read = codebook::read(
@@ -34,22 +32,23 @@ fn reading() -> bool {
     );
     match read {
         PulseReading::Places(places) => {
-            print_places(places);
-            records::print_words(&samples);
+            print_places(output, places)?;
+            records::print_words(output, &samples)
         }
-        PulseReading::Refused(refusal) => records::print_refused(refusal),
-    }
-    io::write_all(STDOUT_FILENO, b"\n");
-    true
+        PulseReading::Refused(refusal) => records::print_refused(output, refusal),
+    }?;
+    output.write_all(b"\n")?;
+    Ok(true)
 }
 
-fn search() -> bool {
+fn search<R: Read, W: Write>(input: &mut R, output: &mut W) -> io::Result<bool> {
     let mut head = [0u8; 6];
-    let got = io::read_full(STDIN_FILENO, &mut head);
-    if got < 6 {
-        return false;
+    if !records::filled(input, &mut head) {
+        return Ok(false);
     }
     searched(
+        input,
+        output,
         head[0],
         head[1],
         records::unsigned(head[2], head[3]),
@@ -57,25 +56,37 @@ fn search() -> bool {
     )
 }
 
-fn searched(target_words: u8, impulse_words: u8, lag: u16, gain: i16) -> bool {
+fn searched<R: Read, W: Write>(
+    input: &mut R,
+    output: &mut W,
+    target_words: u8,
+    impulse_words: u8,
+    lag: u16,
+    gain: i16,
+) -> io::Result<bool> {
     let targets = target_words as usize;
     let impulses = impulse_words as usize;
-    let list = records::read(targets + impulses);
+    let list = records::read(input, targets + impulses);
     if !list.whole {
-        return false;
+        return Ok(false);
     }
-    let words = list.words;
-    let all: &[i16] = &words;
-    print_search(all, targets, impulses, lag, gain);
-    true
+    print_search(output, &list.words, targets, impulses, lag, gain)?;
+    Ok(true)
 }
 
-fn print_search(words: &[i16], targets: usize, impulses: usize, lag: u16, gain: i16) {
+fn print_search<W: Write>(
+    output: &mut W,
+    words: &[i16],
+    targets: usize,
+    impulses: usize,
+    lag: u16,
+    gain: i16,
+) -> io::Result<()> {
     if words.len() < targets {
-        return;
+        return Ok(());
     }
     if words.len() - targets < impulses {
-        return;
+        return Ok(());
     }
     let mut innovation = [0i16; 40];
     let mut filtered = [0i16; 40];
@@ -91,26 +102,26 @@ fn print_search(words: &[i16], targets: usize, impulses: usize, lag: u16, gain: 
     );
     match answer {
         Pulses::Words(found) => {
-            print_pulses(found);
-            records::print_words(&innovation);
-            records::print_words(&filtered);
-            records::print_words(&impulse);
+            print_pulses(output, found)?;
+            records::print_words(output, &innovation)?;
+            records::print_words(output, &filtered)?;
+            records::print_words(output, &impulse)
         }
-        Pulses::Refused(refusal) => records::print_refused(refusal),
-    }
-    io::write_all(STDOUT_FILENO, b"\n");
+        Pulses::Refused(refusal) => records::print_refused(output, refusal),
+    }?;
+    output.write_all(b"\n")
 }
 
-fn print_places(places: Places) {
-    io::write_all(STDOUT_FILENO, b"read");
-    records::print_natural(places.first as u64);
-    records::print_natural(places.second as u64);
-    records::print_natural(places.third as u64);
-    records::print_natural(places.last as u64);
+fn print_places<W: Write>(output: &mut W, places: Places) -> io::Result<()> {
+    output.write_all(b"read")?;
+    records::print_natural(output, places.first as u64)?;
+    records::print_natural(output, places.second as u64)?;
+    records::print_natural(output, places.third as u64)?;
+    records::print_natural(output, places.last as u64)
 }
 
-fn print_pulses(words: PulseWords) {
-    io::write_all(STDOUT_FILENO, b"pulses");
-    records::print_natural(words.positions as u64);
-    records::print_natural(words.signs as u64);
+fn print_pulses<W: Write>(output: &mut W, words: PulseWords) -> io::Result<()> {
+    output.write_all(b"pulses")?;
+    records::print_natural(output, words.positions as u64)?;
+    records::print_natural(output, words.signs as u64)
 }

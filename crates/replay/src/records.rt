@@ -1,6 +1,6 @@
 // What is read of every record, and printed of its answer.
-use libc::{STDIN_FILENO, STDOUT_FILENO};
 use refusal::Refusal;
+use std::io::{self, Read, Write};
 
 // The most words that a record has.
 const WORDS: usize = 255;
@@ -12,12 +12,16 @@ pub(crate) struct List {
     pub(crate) words: [i16; 255],
 }
 
-pub(crate) fn read(count: usize) -> List {
+// Whether the input has enough bytes to fill a buffer. A read that fails is its end.
+pub(crate) fn filled<R: Read>(input: &mut R, bytes: &mut [u8]) -> bool {
+    input.read_exact(bytes).is_ok()
+}
+
+pub(crate) fn read<R: Read>(input: &mut R, count: usize) -> List {
     let mut bytes = [0u8; 510];
     let mut whole = false;
     if count <= WORDS {
-        let got = io::read_full(STDIN_FILENO, &mut bytes[0..2 * count]);
-        whole = got == 2 * count;
+        whole = filled(input, &mut bytes[..2 * count]);
     }
     List {
         whole,
@@ -36,37 +40,31 @@ pub(crate) fn unsigned(high: u8, low: u8) -> u16 {
 }
 
 // Each word behind a space.
-pub(crate) fn print_words(words: &[i16]) {
-    for i in 0..words.len() {
-        print_long(long(words[i]));
+pub(crate) fn print_words<W: Write>(output: &mut W, words: &[i16]) -> io::Result<()> {
+    for word in words {
+        write!(output, " {word}")?;
     }
+    Ok(())
 }
 
 // The number and the detail of a refusal.
-pub(crate) fn print_refused(refusal: Refusal) {
+pub(crate) fn print_refused<W: Write>(output: &mut W, refusal: Refusal) -> io::Result<()> {
+    let number = refusal.number();
     let detail = refusal.detail();
-    io::write_all(STDOUT_FILENO, b"refused");
-    print_natural(refusal.number() as u64);
-    print_signed(detail.negative, detail.magnitude);
+    let sign = if detail.negative { "-" } else { "" };
+    let magnitude = detail.magnitude;
+    write!(output, "refused {number} {sign}{magnitude}")
 }
 
 pub(crate) fn long(v: i16) -> i32 {
     v as i32
 }
 
-pub(crate) fn print_long(v: i32) {
-    print_signed(v < 0, fixed::unsigned_abs(v) as u64);
-}
-
-pub(crate) fn print_natural(n: u64) {
-    print_signed(false, n);
-}
-
 // A number behind a space.
-fn print_signed(negative: bool, magnitude: u64) {
-    io::write_all(STDOUT_FILENO, b" ");
-    if negative {
-        io::write_all(STDOUT_FILENO, b"-");
-    }
-    io::print_decimal(STDOUT_FILENO, magnitude);
+pub(crate) fn print_long<W: Write>(output: &mut W, v: i32) -> io::Result<()> {
+    write!(output, " {v}")
+}
+
+pub(crate) fn print_natural<W: Write>(output: &mut W, n: u64) -> io::Result<()> {
+    write!(output, " {n}")
 }
