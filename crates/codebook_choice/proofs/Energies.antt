@@ -42,9 +42,6 @@ sum_of x y = to_z w32 (of_z w32 (x +ℤ y))
 pub read_word : {a : ℤ} → SFits w16 a → word_of a ≡ a
 read_word f = read w32 (to_z-of_z f) (fits-16-32 f)
 
-pub times-ok : (j : ℕ) {a : ℤ} → j ≤ 16 → SFits w16 a → SFits w32 (pos j *ℤ word_of a)
-times-ok j l f = rw (read_word f) (times-fits j l f)
-
 pub read-times : (j : ℕ) {a : ℤ} → j ≤ 16 → SFits w16 a → times-of j a ≡ pos j *ℤ a
 read-times j l f = read w32 (ap (λ (y : ℤ). pos j *ℤ y) (read_word f)) (times-fits j l f)
 
@@ -90,14 +87,8 @@ module _ (q l h : ℕ) {base own a b : ℤ} (w : Within l h (pos q *ℤ base)) (
       within-32 (l + 32768 + 65536 + 65536) (h + 32767 + 65534 + 65534) (pos q *ℤ base +ℤ own +ℤ pos 2 *ℤ a +ℤ pos 2 *ℤ b)
       (in-3 q l h base own a b w g.sfits i.sfits j.sfits) (omega arith) (omega arith)
 
-  pub ok-1 : SFits w32 (times-of q base +ℤ word_of own)
-  ok-1 = sum-ok (read-times q small f) (read_word g) fits-1
-
   read-1 : sum_of (times-of q base) (word_of own) ≡ pos q *ℤ base +ℤ own
   read-1 = read-sum (read-times q small f) (read_word g) fits-1
-
-  pub ok-2 : SFits w32 (sum_of (times-of q base) (word_of own) +ℤ times-of 2 a)
-  ok-2 = sum-ok read-1 (read-times 2 (omega arith) i) fits-2
 
   read-2 : sum_of (sum_of (times-of q base) (word_of own)) (times-of 2 a) ≡ pos q *ℤ base +ℤ own +ℤ pos 2 *ℤ a
   read-2 = read-sum read-1 (read-times 2 (omega arith) i) fits-2

@@ -7,6 +7,9 @@ ghost use Rattle.std.specs.Int.Signed.{mag, shr_z};
 ghost use Rattle.fixed.specs.Clip.{clip};
 ghost use Rattle.fixed.specs.Operators.{add, sub, negate, abs-s, L-add, L-sub, L-negate, L-abs, L-mult, L-mac, L-msu, mult, extract-h, round, extract-l, L-deposit-h, L-shl, shl, even-bits, norm-l};
 
+// Twice this is a long, and twice the next number is not.
+const MOST_UNDOUBLED: i32 = 1073741823;
+
 // ---- Clipping to the ends of a type.
 
 pub fn clip16(v: i32) -> i16
@@ -105,7 +108,7 @@ pub fn product(a: i16, b: i16) -> i32
     ensures { result ≡ L-mult a b }
 {
     let p = a as i32 * b as i32;
-    if 1073741823 < p {
+    if MOST_UNDOUBLED < p {
         return 2147483647;
     }
     2 * p

@@ -12,7 +12,7 @@ use borrow.Author.Tests.{le-leb, ltb-true, ltb-false}
 use Rattle.fixed.specs.Lists.{at}
 use Rattle.fixed.proofs.Bounds.{either}
 use Rattle.fixed.proofs.Choices.{best-in}
-use Rattle.pitch.specs.declared.Fraction.TheVariants.{MinusThird, Zero}
+use Rattle.pitch.specs.declared.Fraction.TheVariants.{Zero}
 use Rattle.pitch.proofs.Indexings.{in-thirds}
 use Rattle.pitch_choice.specs.Choices.{Interpol-6, step_value, best-lag, best-step, settled, step_of, chosen, choose}
 
@@ -28,13 +28,6 @@ module _ (cs : List ℤ) (lag : ℕ) where
   step-late zero h = absurd (omega arith)
   step-late (suc zero) h = absurd (omega arith)
   step-late (suc (suc k)) h = let e : 2 * k ≡ 2 * (suc (suc k) - 2) = omega arith in ap (Interpol-6 cs lag) e
-
-pub settled-last : (lag step : ℕ) → 4 ≤ step → settled lag step ≡ record { samples = lag + 1; fraction = MinusThird }
-settled-last lag zero h = absurd (omega arith)
-settled-last lag (suc zero) h = absurd (omega arith)
-settled-last lag (suc (suc zero)) h = absurd (omega arith)
-settled-last lag (suc (suc (suc zero))) h = absurd (omega arith)
-settled-last lag (suc (suc (suc (suc k)))) h = refl
 
 module _ (cs : List ℤ) where
   pub best-lag-in : (start n : ℕ) → (start ≤ best-lag cs start n) × (best-lag cs start n ≤ start + n)

@@ -8,12 +8,6 @@ use borrow.Author.Tests.{eq-eqb}
 use Rattle.fixed.specs.Lists.{at, part}
 use Rattle.fixed.proofs.Lists.{length-tabulate}
 use Rattle.synthesis_filter.specs.Synthesis.{with-past, Syn-filt, synthesis}
-use Rattle.synthesis_filter.proofs.Samples.{put-out-length}
-
--- ---- what is put out
-pub past-length : (cs xs past : List ℤ) → length (with-past cs xs past) ≡ 50
-unfolding with-past
-past-length cs xs past = put-out-length cs xs past 40
 
 pub syn-length : (cs xs past : List ℤ) → length (Syn-filt cs xs past) ≡ 40
 unfolding Syn-filt part

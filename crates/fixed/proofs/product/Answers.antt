@@ -34,23 +34,23 @@ doubled_fits : {a b : ℤ} → SFits w16 a → SFits w16 b → lt_z (pos 1073741
 doubled_fits {a} {b} f g t =
     ok w32 (pos 2 *ℤ (a *ℤ b)) (mag-doubled (a *ℤ b) (rw (abs-mul a b) (mul-le-mul (abs-fits f) (abs-fits g))) t)
 
-pub returns-then-p-gt1073741823 : goal.returns-then-p-gt1073741823
+pub returns-then-p-gt-MOST_UNDOUBLED : goal.returns-then-p-gt-MOST_UNDOUBLED
 unfolding L-mult
-returns-then-p-gt1073741823 c =
+returns-then-p-gt-MOST_UNDOUBLED c =
     let f = c.ranges.a in
     let g = c.ranges.b in
-    doubled-over (c.args.a *ℤ c.args.b) (rw (read f g) at c.if-p-gt1073741823.true)
+    doubled-over (c.args.a *ℤ c.args.b) (rw (read f g) at c.if-p-gt-MOST_UNDOUBLED.true)
 
 pub overflow_mul-result : goal.overflow_mul-result
 overflow_mul-result c =
     let f = c.ranges.a in
     let g = c.ranges.b in
-    rw (read f g) (doubled_fits f g (rw (read f g) at c.if-p-gt1073741823.false))
+    rw (read f g) (doubled_fits f g (rw (read f g) at c.if-p-gt-MOST_UNDOUBLED.false))
 
 pub returns : goal.returns
 unfolding L-mult
 returns c =
     let f = c.ranges.a in
     let g = c.ranges.b in
-    let d = doubled_fits f g (rw (read f g) at c.if-p-gt1073741823.false) in
+    let d = doubled_fits f g (rw (read f g) at c.if-p-gt-MOST_UNDOUBLED.false) in
     rw (read f g, to_z-of_z d) (sym (clip-id 31 (pos 2 *ℤ (c.args.a *ℤ c.args.b)) d.sfits))
