@@ -1,4 +1,4 @@
-// The program of 01, 'Feed and program': reads a feed from standard input and prints a line a record, both in blocks of 64 KB. The programs over it differ in their stored feeds alone.
+// The program of 01, 'Feed and program': reads a feed and writes a line a record, both in blocks of 64 KB. The programs over it differ in their stored feeds alone.
 #![tactic(auto)]
 
 ghost use Rattle.std.specs.Prelude.{◌≡◌, ◌+◌, ◌<◌, ◌≤◌, not, length, if◌then◌else◌};
@@ -7,11 +7,11 @@ ghost use Rattle.feed_lines.specs.Endings.{Stops};
 
 use feed::Header;
 use lag_reader::Reader;
-use libc::{STDERR_FILENO, STDIN_FILENO, STDOUT_FILENO};
 use open_loop::Detector;
 use pitch_search::Search;
 use refusal::Refusal;
 use selection_answers::Fields;
+use std::io::{Read, Write};
 
 // A line begins at most here, and so fits the output block: it has at most 20 digits, a name, 160 numbers of at most 22 bytes and its end.
 const LAST_START: usize = 61440;
@@ -71,25 +71,33 @@ struct Place {
     written: bool,
 }
 
-// Prints a line for each record of the feed on standard input, and a sentence on standard error where the printing does not end where the feed does. No input has as many blocks as the loop has turns.
-pub fn print() -> Ended
+// Prints a line for each record of the feed that the reader gives, as the program does from standard input to standard output, and a sentence on `errors` where the printing does not end where the feed does. No input has as many blocks as the loop has turns.
+pub fn print<R: Read, W: Write, E: Write>(reader: &mut R, writer: &mut W, errors: &mut E) -> Ended
     ensures { Stops result }
 {
-    let mut input = io::large_buffer();
-    let mut output = io::large_buffer();
+    let mut input = [0u8; 65536];
+    let mut output = [0u8; 65536];
     let detector = Detector::fresh();
     let mut history = detector.history_q0;
     let mut words = [0i16; 160];
     let mut state = begun(&mut output);
     let mut turns = u64::MAX;
     while turns > 0 && state.open {
-        state = block(state, &mut history, &mut words, &mut input, &mut output);
+        state = block(
+            state,
+            reader,
+            writer,
+            &mut history,
+            &mut words,
+            &mut input,
+            &mut output,
+        );
         turns -= 1;
     }
-    let written = write(STDOUT_FILENO, &output, state.filled);
+    let written = write(writer, &output, state.filled);
     let ended = ending(state, written, &input);
     let said = put_ended(&mut output, ended, state.number);
-    write(STDERR_FILENO, &output, said);
+    write(errors, &output, said);
     ended
 }
 
@@ -147,16 +155,25 @@ fn stands(header: Header, place: u64, last: bool) -> Ended
 }
 
 // What is left of the input block moves to its front, the rest is read behind it, and its whole records are run.
-fn block(
+fn block<R: Read, W: Write>(
     state: State,
+    reader: &mut R,
+    writer: &mut W,
     history: &mut [i16; 143],
     words: &mut [i16; 160],
     input: &mut [u8],
     output: &mut [u8; 65536],
 ) -> State {
     let kept = moved(input, state.at, state.have);
-    let loaded = read_behind(input, kept);
-    let next = run(reloaded(state, kept, loaded), history, words, input, output);
+    let loaded = read_behind(reader, input, kept);
+    let next = run(
+        reloaded(state, kept, loaded),
+        writer,
+        history,
+        words,
+        input,
+        output,
+    );
     closed_where(loaded.failed, next)
 }
 
@@ -184,8 +201,8 @@ fn moved(input: &mut [u8], at: usize, have: usize) -> usize {
 }
 
 // A short count is the end of the input, or a read that failed: one more read tells which.
-fn read_behind(input: &mut [u8], kept: usize) -> Loaded {
-    let have = read_full(input, kept);
+fn read_behind<R: Read>(reader: &mut R, input: &mut [u8], kept: usize) -> Loaded {
+    let have = read_full(reader, input, kept);
     if input.len() <= have {
         return Loaded {
             have,
@@ -193,34 +210,36 @@ fn read_behind(input: &mut [u8], kept: usize) -> Loaded {
             failed: false,
         };
     }
-    let got = read_more(input, have);
-    if got > 0 {
-        return Loaded {
-            have: std::num::wrapping_add_usize(have, io::count(got, input)),
+    match reader.read(&mut input[have..]) {
+        Ok(0) => Loaded {
+            have,
+            last: true,
+            failed: false,
+        },
+        Ok(more) => Loaded {
+            have: have + more,
             last: false,
             failed: false,
-        };
-    }
-    Loaded {
-        have,
-        last: got == 0,
-        failed: got < 0,
+        },
+        Err(_) => Loaded {
+            have,
+            last: false,
+            failed: true,
+        },
     }
 }
 
-// How many bytes there are then.
-fn read_full(input: &mut [u8], kept: usize) -> usize {
-    if input.len() < kept {
-        return kept;
+// Reads behind the bytes that are kept, until the block is full, the input ends or a read fails: how many bytes there are then.
+fn read_full<R: Read>(reader: &mut R, input: &mut [u8], kept: usize) -> usize {
+    let mut have = kept;
+    while have < input.len() {
+        match reader.read(&mut input[have..]) {
+            Ok(0) => break,
+            Ok(more) => have += more,
+            Err(_) => break,
+        }
     }
-    kept + io::read_full(STDIN_FILENO, &mut input[kept..])
-}
-
-fn read_more(input: &mut [u8], have: usize) -> isize {
-    if input.len() < have {
-        return 0;
-    }
-    libc::read(STDIN_FILENO, &mut input[have..])
+    have
 }
 
 fn reloaded(state: State, kept: usize, loaded: Loaded) -> State {
@@ -234,8 +253,9 @@ fn reloaded(state: State, kept: usize, loaded: Loaded) -> State {
 }
 
 // A record has at least one byte, so there are no more records than bytes.
-fn run(
+fn run<W: Write>(
     state: State,
+    writer: &mut W,
     history: &mut [i16; 143],
     words: &mut [i16; 160],
     input: &[u8],
@@ -250,7 +270,7 @@ fn run(
     let mut end = end_of(feed, next.at, next.last);
     let mut turns = have;
     while turns > 0 && next.open && next.at < end {
-        next = record(next, history, words, feed, end, output);
+        next = record(next, writer, history, words, feed, end, output);
         end = end_of(feed, next.at, next.last);
         turns -= 1;
     }
@@ -287,8 +307,9 @@ fn short(refusal: Refusal) -> bool {
     }
 }
 
-fn record(
+fn record<W: Write>(
     state: State,
+    writer: &mut W,
     history: &mut [i16; 143],
     words: &mut [i16; 160],
     feed: &[u8],
@@ -299,7 +320,7 @@ fn record(
     let answer = step.answer;
     let fields = selection_answers::fields_of(answer);
     let next = advanced(state, step.searcher, step.reader, fields.number, end);
-    lined(next, fields, words, output)
+    lined(next, writer, fields, words, output)
 }
 
 // The state behind a record. 'After refusals 9 and 10 it stops', at that record.
@@ -319,8 +340,14 @@ fn advanced(state: State, searcher: Search, reader: Reader, refusal: u8, end: us
 }
 
 // With a line that waits to be written, where those before it were not lost.
-fn lined(state: State, fields: Fields, words: &[i16; 160], output: &mut [u8; 65536]) -> State {
-    let line = line_start(output, state.filled);
+fn lined<W: Write>(
+    state: State,
+    writer: &mut W,
+    fields: Fields,
+    words: &[i16; 160],
+    output: &mut [u8; 65536],
+) -> State {
+    let line = line_start(writer, output, state.filled);
     let mut next = state;
     next.filled = put_line(output, line.filled, state.number, fields, words);
     if !line.written {
@@ -331,13 +358,13 @@ fn lined(state: State, fields: Fields, words: &[i16; 160], output: &mut [u8; 655
 }
 
 // Behind the last place where a line may begin, the block is written first.
-fn line_start(output: &[u8; 65536], filled: usize) -> Place
+fn line_start<W: Write>(writer: &mut W, output: &[u8; 65536], filled: usize) -> Place
     ensures { result.filled ≤ 61440 }
 {
     if LAST_START < filled {
         return Place {
             filled: 0,
-            written: write(STDOUT_FILENO, output, filled),
+            written: write(writer, output, filled),
         };
     }
     Place {
@@ -347,12 +374,12 @@ fn line_start(output: &[u8; 65536], filled: usize) -> Place
 }
 
 // The first bytes of a block, and whether all were written.
-fn write(descriptor: i32, output: &[u8; 65536], filled: usize) -> bool {
+fn write<W: Write>(writer: &mut W, output: &[u8; 65536], filled: usize) -> bool {
     let block: &[u8] = output;
     if block.len() < filled {
         return false;
     }
-    io::write_all(descriptor, &block[..filled])
+    writer.write_all(&block[..filled]).is_ok()
 }
 
 // ---- Lines, into the output block: each function answers where its bytes end.
