@@ -1,6 +1,6 @@
 // The program of 01, 'Feed and program'. Its stored feed ends inside a record's body: number 10.
 #![tactic(auto)]
 
-fn main() {
-    feed_lines::print();
+fn main(rt: HostRuntime) {
+    feed_lines::print(&mut rt.stdin(), &mut rt.stdout(), &mut rt.stderr());
 }
