@@ -1,6 +1,6 @@
 // The program `select` on a feed that ends by number 9: behind a record of an unknown kind there are more bytes, of which no line is made.
 #![tactic(auto)]
 
-fn main() {
-    feed_lines::print();
+fn main(rt: HostRuntime) {
+    feed_lines::print(&mut rt.stdin(), &mut rt.stdout(), &mut rt.stderr());
 }
