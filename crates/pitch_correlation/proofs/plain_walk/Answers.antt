@@ -5,7 +5,7 @@ use native.Mathlib.Omega.{arith}
 use native.Mathlib.Numerals.{add-one}
 use borrow.Author.Rules.{rules}
 use lib.IntN.{ℤ, pos, nat_abs, ◌+ℤ◌, ◌*ℤ◌}
-use mir.Syntax.{w16, w32}
+use mir.Syntax.{w32}
 use mir.Val.{SFits, to_z, of_z}
 use mir.Facts.{to_z-of_z}
 use Rattle.fixed.specs.Lists.{at, L-sum, dot}
@@ -40,27 +40,22 @@ pub overflow_add-energy : goal.overflow_add-energy
 overflow_add-energy c =
     let x = c.args.filtered.now in
     let i = c.loop-i.i in
-    let a : to_z w16 (of_z w16 (at x i)) ≡ at x i = search rules in
-    fits x x c.requires.0 i (to_z w32 c.loop-i.energy-bits) _ (omega arith) (got w32 c.exact-energy.type_inv c.exact-energy.ensures ∙ rw a) c.loop-i.invariant.0
+    fits x x c.requires.0 i (to_z w32 c.loop-i.energy-bits) _ (omega arith) (got w32 c.exact-energy.type_inv c.exact-energy.ensures ∙ (search rules)) c.loop-i.invariant.0
 
 pub overflow_add-sum : goal.overflow_add-sum
 overflow_add-sum c =
     let x = c.args.filtered.now in
     let y = c.args.target.now in
     let i = c.loop-i.i in
-    let a : to_z w16 (of_z w16 (at x i)) ≡ at x i = search rules in
-    let b : to_z w16 (of_z w16 (at y i)) ≡ at y i = search rules in
-    fits x y c.requires.1 i (to_z w32 c.loop-i.sum-bits) _ (omega arith) (got w32 c.exact-sum.type_inv c.exact-sum.ensures ∙ rw (a, b)) c.loop-i.invariant.1
+    fits x y c.requires.1 i (to_z w32 c.loop-i.sum-bits) _ (omega arith) (got w32 c.exact-sum.type_inv c.exact-sum.ensures ∙ (search rules)) c.loop-i.invariant.1
 
 pub loop-i-preserved : goal.loop-i-preserved
 loop-i-preserved c =
     let x = c.args.filtered.now in
     let y = c.args.target.now in
-    let i = c.loop-i.i in
-    let a : to_z w16 (of_z w16 (at x i)) ≡ at x i = search rules in
-    let b : to_z w16 (of_z w16 (at y i)) ≡ at y i = search rules in (
-      next x x c.requires.0 i (to_z w32 c.loop-i.energy-bits) _ (omega arith) (got w32 c.exact-energy.type_inv c.exact-energy.ensures ∙ rw a) c.loop-i.invariant.0,
-      next x y c.requires.1 i (to_z w32 c.loop-i.sum-bits) _ (omega arith) (got w32 c.exact-sum.type_inv c.exact-sum.ensures ∙ rw (a, b)) c.loop-i.invariant.1,
+    let i = c.loop-i.i in (
+      next x x c.requires.0 i (to_z w32 c.loop-i.energy-bits) _ (omega arith) (got w32 c.exact-energy.type_inv c.exact-energy.ensures ∙ (search rules)) c.loop-i.invariant.0,
+      next x y c.requires.1 i (to_z w32 c.loop-i.sum-bits) _ (omega arith) (got w32 c.exact-sum.type_inv c.exact-sum.ensures ∙ (search rules)) c.loop-i.invariant.1,
     )
 
 pub overflow_mul-result : goal.overflow_mul-result
