@@ -53,7 +53,7 @@ struct State {
     // The input ends with the input block.
     last: bool,
     // A record may follow.
-    open: bool,
+    follows: bool,
 }
 
 // What a read left in the input block.
@@ -82,7 +82,7 @@ pub fn print<R: Read, W: Write, E: Write>(reader: &mut R, writer: &mut W, errors
     let mut words = [0i16; 160];
     let mut state = begun(&mut output);
     let mut turns = u64::MAX;
-    while turns > 0 && state.open {
+    while turns > 0 && state.follows {
         state = block(
             state,
             reader,
@@ -112,7 +112,7 @@ fn begun(output: &mut [u8; 65536]) -> State {
         have: 0,
         filled,
         last: false,
-        open: true,
+        follows: true,
     }
 }
 
@@ -269,7 +269,7 @@ fn run<W: Write>(
     let mut next = state;
     let mut end = end_of(feed, next.at, next.last);
     let mut turns = have;
-    while turns > 0 && next.open && next.at < end {
+    while turns > 0 && next.follows && next.at < end {
         next = record(next, writer, history, words, feed, end, output);
         end = end_of(feed, next.at, next.last);
         turns -= 1;
@@ -282,7 +282,7 @@ fn run<W: Write>(
 
 fn closed(state: State) -> State {
     let mut next = state;
-    next.open = false;
+    next.follows = false;
     next
 }
 
@@ -325,14 +325,14 @@ fn record<W: Write>(
 
 // The state behind a record. 'After refusals 9 and 10 it stops', at that record.
 fn advanced(state: State, searcher: Search, reader: Reader, refusal: u8, end: usize) -> State
-    ensures { (result.open ≡ not (ends-feed refusal)) × (result.at ≡ (if ends-feed refusal then state.at else end)) }
+    ensures { (result.follows ≡ not (ends-feed refusal)) × (result.at ≡ (if ends-feed refusal then state.at else end)) }
 {
     let ends = feed::ends_feed(refusal);
     let mut next = state;
     next.searcher = searcher;
     next.reader = reader;
     next.number = std::num::wrapping_add_u64(state.number, 1);
-    next.open = !ends;
+    next.follows = !ends;
     if !ends {
         next.at = end;
     }
@@ -352,7 +352,7 @@ fn lined<W: Write>(
     next.filled = put_line(output, line.filled, state.number, fields, words);
     if !line.written {
         next.filled = LOST;
-        next.open = false;
+        next.follows = false;
     }
     next
 }

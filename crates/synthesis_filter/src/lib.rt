@@ -17,6 +17,9 @@ const BUFFER_SAMPLES: usize = 50;
 
 const SYNTHESIS_SCALE_SHIFT: i16 = 3;
 
+// Twice this is a long, and twice the next number is not.
+const MOST_UNDOUBLED: u64 = 1073741823;
+
 // Ten samples of the past, and the 40 that the filter puts out after them. Where a list has another length than 11, 40 and 10, all is 0.
 pub fn synthesis(coefficients: &[i16], excitation: &[i16], past: &[i16]) -> [i16; 50]
     ensures { result ≡ synthesis coefficients.now excitation.now past.now }
@@ -67,7 +70,7 @@ fn sum_at(
     ensures { result ≡ less-past coefficients.now samples.now place (L-mult excitation (at coefficients.now 0)) 10 }
 {
     let first = fixed::exact(excitation, coefficients[0]);
-    if 1073741823 < fixed::unsigned_abs(first) as u64 + reach as u64 * peak as u64 {
+    if MOST_UNDOUBLED < fixed::unsigned_abs(first) as u64 + reach as u64 * peak as u64 {
         return clipped_sum(coefficients, excitation, samples, place);
     }
     plain_sum(coefficients, excitation, samples, place)

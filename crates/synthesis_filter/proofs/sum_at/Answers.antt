@@ -17,4 +17,4 @@ plain_sum-requires c =
     let e : to_z w32 (of_z w32 c.exact-first.result) ≡ to_z w16 (of_z w16 c.args.excitation) *ℤ at cs 0 = rw (got w32 c.exact-first.type_inv c.exact-first.ensures, x) in
     let n = rw e at c.unsigned_abs.ensures in
     let w = weighed-le cs ys c.args.place c.args.peak 10 c.requires.1 c.requires.4 in
-    (c.requires.0, c.requires.1, c.requires.2, omega (arith, c.if-unsigned_abs-reach-gt1073741823.false, n, rw (← c.requires.3) at w))
+    (c.requires.0, c.requires.1, c.requires.2, omega (arith, c.if-unsigned_abs-reach-gt-MOST_UNDOUBLED.false, n, rw (← c.requires.3) at w))
