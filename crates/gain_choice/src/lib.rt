@@ -1,8 +1,8 @@
 // The row of the table that is nearest, TS 26.073 Qua_gain's search at 7.4 kbit/s, from gain/quantization.rs.
 #![tactic(auto)]
 
-ghost use Rattle.std.specs.Prelude.{◌≡◌, [], ◌∷◌, ℕ, ◌<◌, ◌≤◌, pos, nat_abs};
-ghost use Rattle.std.specs.Int.Signed.{le_z};
+ghost use Rattle.std.specs.Prelude.{true, cond, ◌≡◌, [], ◌∷◌, ℕ, ◌<◌, ◌≤◌, pos, nat_abs};
+ghost use Rattle.std.specs.Int.Signed.{lt_z, le_z};
 ghost use Rattle.fixed.specs.Operators.{mult, Mpy-32-16};
 ghost use Rattle.fixed.specs.Lists.{at, tabulate, L-sum};
 ghost use Rattle.gain_table.specs.Rows.{pitch, pitches, corrections};
@@ -102,15 +102,65 @@ fn weighted(weight: i32, product: i16) -> i32
 }
 
 // The lowest of the rows within the limit that are nearest. Row 0 is within both limits of the stage, and is answered where no row is.
+// Three passes, in each of which the compiler takes four rows at once.
 fn nearest(far: &[i32; 128], pitches_q14: &[i16; 128], limit_q14: i16) -> usize
     requires { pitches_q14.now ≡ pitches }
     ensures { (result ≡ nearest (λ k. le_z (pitch k) limit_q14) (at far.now) 127) × (result ≤ 127) }
 {
-    let mut index = 0;
-    for i in 1..ROWS {
-        if (pitches_q14[i] <= limit_q14) & (far[i] < far[index]) {
-            index = i;
+    let distances = allowed(far, pitches_q14, limit_q14);
+    first(&distances, least(&distances))
+}
+
+// The distances, but the greatest long for a row past the limit: it is below no distance, so no limit is needed any more. Row 0 keeps its own.
+fn allowed(far: &[i32; 128], pitches_q14: &[i16; 128], limit_q14: i16) -> [i32; 128]
+    requires { pitches_q14.now ≡ pitches }
+    ensures { nearest (λ k. true) (at result) 127 ≡ nearest (λ k. le_z (pitch k) limit_q14) (at far.now) 127 }
+{
+    let mut distances = [0i32; ROWS];
+    for i in 0..ROWS {
+        distances[i] = within(far[i], pitches_q14[i], limit_q14);
+    }
+    distances[0] = far[0];
+    distances
+}
+
+fn within(distance: i32, pitch: i16, limit_q14: i16) -> i32
+    ensures { result ≡ cond (le_z pitch limit_q14) distance (pos 2147483647) }
+{
+    if pitch <= limit_q14 {
+        return distance;
+    }
+    2147483647
+}
+
+fn least(distances: &[i32; 128]) -> i32
+    ensures { result ≡ at distances.now (nearest (λ k. true) (at distances.now) 127) }
+{
+    let mut least = distances[0];
+    for i in 0..ROWS {
+        least = lesser(least, distances[i]);
+    }
+    least
+}
+
+fn lesser(a: i32, b: i32) -> i32
+    ensures { result ≡ cond (lt_z b a) b a }
+{
+    if b < a {
+        return b;
+    }
+    a
+}
+
+// The first place of the least distance. There is one, so the loop always finds it.
+fn first(distances: &[i32; 128], least: i32) -> usize
+    requires { least ≡ at distances.now (nearest (λ k. true) (at distances.now) 127) }
+    ensures { (result ≡ nearest (λ k. true) (at distances.now) 127) × (result ≤ 127) }
+{
+    for i in 0..ROWS {
+        if distances[i] == least {
+            return i;
         }
     }
-    index
+    0
 }

@@ -1,0 +1,8 @@
+use Rattle.std.proofs.Common.{◌≡◌, ◌-◌}
+use Rattle.fixed.specs.Lists.{at}
+use Rattle.gain_choice.specs.Rows.{nearest}
+use Rattle.gain_choice.proofs.Passes.{every}
+use Rattle.gain_choice.proofs.least.Given as goal
+
+abbrev pub invariant-loop-i : goal.invariant-loop-i
+invariant-loop-i l = l.least ≡ at l.distances (nearest every (at l.distances) (l.i - 1))
