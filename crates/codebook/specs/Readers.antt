@@ -1,7 +1,7 @@
 -- 01, 'Pulse reader (TS 26.073): 8191 or −8192': decode_4i40_17bits.
 use Rattle.std.specs.Prelude.{cond, List, [], ◌∷◌, ℕ, ◌+◌, ◌*◌, ◌/◌, ◌%◌, eqb, ℤ, pos, negsuc, get_or, set, replicate}
 use Rattle.refusal.specs.Refused.{Told, values, turned_down}
-use Rattle.refusal.specs.Checks.{Outcome, unless-refused, length-is, position-word, sign_word}
+use Rattle.refusal.specs.Checks.{Outcome, unless_refused, length_is, position_word, sign_word}
 use Rattle.codebook.specs.declared.Places.{Places}
 use Rattle.codebook.specs.declared.PulseReading.{PulseReading}
 use Rattle.codebook.specs.declared.PulseReading.TheVariants.{Places as ReadPlaces, Refused}
@@ -22,23 +22,23 @@ places_of positions =
     }
 
 -- the pulse whose sign the lowest bit is
-abbrev pub pulse-of : ℕ → ℤ
-pulse-of bits = cond (eqb (bits % 2) 1) (pos 8191) (negsuc 8191)
+abbrev pub pulse_of : ℕ → ℤ
+pulse_of bits = cond (eqb (bits % 2) 1) (pos 8191) (negsuc 8191)
 
 -- 40 words, in Q13, with the pulses at their places
-abbrev pub pulses-at : Places → ℕ → List ℤ
-pulses-at p signs =
-    set (set (set (set (replicate 40 (pos 0)) p.first (pulse-of signs)) p.second (pulse-of (signs / 2))) p.third (pulse-of (signs / 4)))
-    p.last (pulse-of (signs / 8))
+abbrev pub pulses_at : Places → ℕ → List ℤ
+pulses_at p signs =
+    set (set (set (set (replicate 40 (pos 0)) p.first (pulse_of signs)) p.second (pulse_of (signs / 2))) p.third (pulse_of (signs / 4)))
+    p.last (pulse_of (signs / 8))
 
 -- ---- the reader
 -- an answer as 01 gives it: the four places
-abbrev pub told-places : PulseReading → Told Places
-told-places (ReadPlaces p) = values p
-told-places (Refused r) = turned_down r
+abbrev pub told_places : PulseReading → Told Places
+told_places (ReadPlaces p) = values p
+told_places (Refused r) = turned_down r
 
 -- decode_4i40_17bits behind 01's checks: the answer, and the lent list after it
 unfoldable pub decode : ℕ → ℕ → List ℤ → Outcome Places (List ℤ)
 decode positions signs out =
-    unless-refused (length-is 40 out ∷ position-word positions ∷ sign_word signs ∷ []) out
-    (record { answer = values (places_of positions); after = pulses-at (places_of positions) signs })
+    unless_refused (length_is 40 out ∷ position_word positions ∷ sign_word signs ∷ []) out
+    (record { answer = values (places_of positions); after = pulses_at (places_of positions) signs })

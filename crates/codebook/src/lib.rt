@@ -3,8 +3,8 @@
 
 ghost use Rattle.std.specs.Prelude.{◌≡◌, ◌<◌, ◌^◌, length};
 ghost use Rattle.codebook.specs.Gray.{dgray};
-ghost use Rattle.codebook.specs.Words.{number_of, position-bits, slot, sign_bit};
-ghost use Rattle.codebook.specs.Readers.{place_of, pulse-of, places_of, pulses-at, told-places, decode};
+ghost use Rattle.codebook.specs.Words.{number_of, position_bits, slot, sign_bit};
+ghost use Rattle.codebook.specs.Readers.{place_of, pulse_of, places_of, pulses_at, told_places, decode};
 
 use refusal::Refusal;
 
@@ -43,7 +43,7 @@ pub enum PulseReading {
 
 // The samples are lent by the caller.
 pub fn read(pulse_positions: u16, pulse_signs: u16, samples_q13: &mut [i16]) -> PulseReading
-    ensures { (told-places result ≡ (decode pulse_positions pulse_signs samples_q13.old).answer)
+    ensures { (told_places result ≡ (decode pulse_positions pulse_signs samples_q13.old).answer)
         × (samples_q13.new ≡ (decode pulse_positions pulse_signs samples_q13.old).after) }
 {
     if samples_q13.len() != SUBFRAME_SAMPLES {
@@ -62,7 +62,7 @@ pub fn read(pulse_positions: u16, pulse_signs: u16, samples_q13: &mut [i16]) -> 
 
 fn write(places: Places, signs: u16, samples: &mut [i16])
     requires { (length samples.old ≡ 40) × (places.first < 40) × (places.second < 40) × (places.third < 40) × (places.last < 40) }
-    ensures { samples.new ≡ pulses-at places signs }
+    ensures { samples.new ≡ pulses_at places signs }
 {
     for i in 0..SUBFRAME_SAMPLES {
         samples[i] = 0;
@@ -100,7 +100,7 @@ fn place(bits: u16, track: usize, table: &[u8; 8]) -> usize
 
 // The pulse whose sign the lowest bit is: set means positive.
 fn pulse(bits: u16) -> i16
-    ensures { result ≡ pulse-of bits }
+    ensures { result ≡ pulse_of bits }
 {
     if bits % 2 == 1 {
         return POSITIVE_Q13;
@@ -111,7 +111,7 @@ fn pulse(bits: u16) -> i16
 // ---- What a pulse adds to the two words.
 
 pub fn position_bits(place: usize) -> u16
-    ensures { result ≡ position-bits place }
+    ensures { result ≡ position_bits place }
 {
     let number = gray_number(place);
     match place % TRACKS {

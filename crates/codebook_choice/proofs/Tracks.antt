@@ -9,16 +9,16 @@ use lib.IntN.{ℤ}
 use borrow.Author.Tests.{ne_eqb}
 use Rattle.fixed.specs.Operators.{add, mult}
 use Rattle.fixed.specs.Lists.{at, tabulate}
-use Rattle.fixed.proofs.Lists.{at-tabulate}
+use Rattle.fixed.proofs.Lists.{at_tabulate}
 use Rattle.codebook_steps.specs.declared.Step.{Step}
 use Rattle.codebook_steps.specs.Steps.{exceeds, better, none_in}
-use Rattle.codebook_choice.specs.Choices.{best-step}
+use Rattle.codebook_choice.specs.Choices.{best_step}
 
 -- only the steps at a track's places count
-pub best-same : (f g : ℕ → Step) (track n : ℕ) → ((k : ℕ) → k < n → f (track + 5 * k) ≡ g (track + 5 * k)) → best-step f track n ≡ best-step g track n
-unfolding best-step
-best-same f g track zero e = refl
-best-same f g track (suc n) e = rw (best-same f g track n (λ k h. e k (omega arith)), e n (omega arith))
+pub best_same : (f g : ℕ → Step) (track n : ℕ) → ((k : ℕ) → k < n → f (track + 5 * k) ≡ g (track + 5 * k)) → best_step f track n ≡ best_step g track n
+unfolding best_step
+best_same f g track zero e = refl
+best_same f g track (suc n) e = rw (best_same f g track n (λ k h. e k (omega arith)), e n (omega arith))
 
 -- place number n of a track
 pub number_of : (track n : ℕ) → track < 5 → (track + 5 * n) / 5 ≡ n
@@ -36,25 +36,25 @@ module _ (cs squares energies : List ℤ) (sum : ℤ) (track : ℕ) where
   -- the best of the first n is this step
   abbrev pub Held : ℕ → ℕ → ℤ → ℤ → Type 0
   Held n found square energy =
-      (best-step candidate track n ≡ seen found square energy) × ((best-step candidate track n).square ≡ square) × ((best-step candidate track n).energy ≡ energy)
+      (best_step candidate track n ≡ seen found square energy) × ((best_step candidate track n).square ≡ square) × ((best_step candidate track n).energy ≡ energy)
 
   pub number_more : (n : ℕ) → track < 5 → n < 8 →
-      exceeds (at squares n) (at energies n) (best-step candidate track n).square (best-step candidate track n).energy ≡ true → Held (suc n) n (at squares n) (at energies n)
-  unfolding best-step better
+      exceeds (at squares n) (at energies n) (best_step candidate track n).square (best_step candidate track n).energy ≡ true → Held (suc n) n (at squares n) (at energies n)
+  unfolding best_step better
   number_more n t l e = let d = number_of track n t in rw (d, e, ne_eqb n 8 (λ (q : n ≡ 8). absurd (omega arith))) (refl, refl, refl)
 
-  pub number-less : (n found : ℕ) (square energy : ℤ) → track < 5 →
-      exceeds (at squares n) (at energies n) (best-step candidate track n).square (best-step candidate track n).energy ≡ false → Held n found square energy → Held (suc n) found square energy
-  unfolding best-step better
-  number-less n found square energy t e h = let d = number_of track n t in rw (d, e) h
+  pub number_less : (n found : ℕ) (square energy : ℤ) → track < 5 →
+      exceeds (at squares n) (at energies n) (best_step candidate track n).square (best_step candidate track n).energy ≡ false → Held n found square energy → Held (suc n) found square energy
+  unfolding best_step better
+  number_less n found square energy t e h = let d = number_of track n t in rw (d, e) h
 
 -- the lists may be those of steps f
 pub best_of : (f : ℕ → Step) (cs : List ℤ) (sum : ℤ) (e : ℕ → ℤ) (track : ℕ) → track < 5 →
     ((p : ℕ) → f p ≡ record { place = p; sum = add sum (at cs p); square = mult (add sum (at cs p)) (add sum (at cs p)); energy = (f p).energy }) →
     ((n : ℕ) → n < 8 → e n ≡ (f (track + 5 * n)).energy) →
-    best-step (candidate cs (tabulate (λ n. mult (add sum (at cs (track + 5 * n))) (add sum (at cs (track + 5 * n)))) 8) (tabulate e 8) sum track) track 8 ≡ best-step f track 8
+    best_step (candidate cs (tabulate (λ n. mult (add sum (at cs (track + 5 * n))) (add sum (at cs (track + 5 * n)))) 8) (tabulate e 8) sum track) track 8 ≡ best_step f track 8
 best_of f cs sum e track t is en =
-    best-same _ f track 8
+    best_same _ f track 8
     (λ k h.
     let d = number_of track k t in
-    rw (is (track + 5 * k), d, at-tabulate (λ n. mult (add sum (at cs (track + 5 * n))) (add sum (at cs (track + 5 * n)))) (lib.IntN.pos 0) 8 k h, at-tabulate e (lib.IntN.pos 0) 8 k h, en k h))
+    rw (is (track + 5 * k), d, at_tabulate (λ n. mult (add sum (at cs (track + 5 * n))) (add sum (at cs (track + 5 * n)))) (lib.IntN.pos 0) 8 k h, at_tabulate e (lib.IntN.pos 0) 8 k h, en k h))

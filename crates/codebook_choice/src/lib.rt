@@ -3,12 +3,12 @@
 
 ghost use Rattle.std.specs.Prelude.{◌≡◌, cond, [], ℕ, ◌+◌, ◌*◌, ◌/◌, ◌<◌, pos, get_or};
 ghost use Rattle.std.specs.Int.Signed.{mag};
-ghost use Rattle.fixed.specs.Operators.{add, mult, round, L-mult, L-mac, L-deposit-h};
+ghost use Rattle.fixed.specs.Operators.{add, mult, round, L_mult, L_mac, L_deposit_h};
 ghost use Rattle.fixed.specs.Lists.{at, tabulate};
-ghost use Rattle.codebook_target.specs.Starts.{may-start};
+ghost use Rattle.codebook_target.specs.Starts.{may_start};
 ghost use Rattle.codebook_matrix.specs.Matrices.{cell};
 ghost use Rattle.codebook_steps.specs.Steps.{none_in, kept};
-ghost use Rattle.codebook_choice.specs.Choices.{second_at, third_at, fourth-at, best-step, last_step, permutation, permutations, search-4i40};
+ghost use Rattle.codebook_choice.specs.Choices.{second_at, third_at, fourth_at, best_step, last_step, permutation, permutations, search_4i40};
 
 use codebook_steps::{Step, Trial};
 
@@ -22,7 +22,7 @@ const SIXTEENTH_Q15: i16 = 2048;
 
 // The table comes by value.
 pub fn select(correlation: &[i16; 40], table: [[i16; 40]; 40], left: &[i16; 40]) -> Trial
-    ensures { result ≡ search-4i40 correlation.now table left.now }
+    ensures { result ≡ search_4i40 correlation.now table left.now }
 {
     let held = Trial {
         first: 0,
@@ -92,7 +92,7 @@ fn seconds(
     b: usize,
 ) -> [Step; 8]
     requires { (a < 5) × (b < 5) }
-    ensures { result ≡ tabulate (λ n. cond (may-start left.now (a + 5 * n)) (best-step (second_at correlation.now table.now (a + 5 * n)) b 8) (none_in b)) 8 }
+    ensures { result ≡ tabulate (λ n. cond (may_start left.now (a + 5 * n)) (best_step (second_at correlation.now table.now (a + 5 * n)) b 8) (none_in b)) 8 }
 {
     let mut steps = [codebook_steps::none_in(b); 8];
     for n in 0..POSITIONS_PER_TRACK {
@@ -113,7 +113,7 @@ fn thirds(
     c: usize,
 ) -> [Step; 8]
     requires { (a < 5) × (c < 5) × ((n : ℕ) → n < 8 → (get_or ones n (record { place = 0; sum = pos 0; square = pos 0; energy = pos 0 })).place < 40) }
-    ensures { result ≡ tabulate (λ n. cond (may-start left.now (a + 5 * n)) (best-step (third_at correlation.now table.now (a + 5 * n) (get_or ones n (record { place = 0; sum = pos 0; square = pos 0; energy = pos 0 }))) c 8) (none_in c)) 8 }
+    ensures { result ≡ tabulate (λ n. cond (may_start left.now (a + 5 * n)) (best_step (third_at correlation.now table.now (a + 5 * n) (get_or ones n (record { place = 0; sum = pos 0; square = pos 0; energy = pos 0 }))) c 8) (none_in c)) 8 }
 {
     let mut steps = [codebook_steps::none_in(c); 8];
     for n in 0..POSITIONS_PER_TRACK {
@@ -136,7 +136,7 @@ fn started(
     d: usize,
 ) -> Trial
     requires { (first < 40) × (one.place < 40) × (two.place < 40) × (d < 5) }
-    ensures { result ≡ cond (may-start left.now first) (kept held (last_step correlation.now table.now first one two d)) held }
+    ensures { result ≡ cond (may_start left.now first) (kept held (last_step correlation.now table.now first one two d)) held }
 {
     if 0 <= left[first] {
         return codebook_steps::kept(held, finished(correlation, table, first, one, two, d));
@@ -170,7 +170,7 @@ fn finished(
 
 fn second(correlation: &[i16; 40], table: &[[i16; 40]; 40], first: usize, track: usize) -> Step
     requires { (first < 40) × (track < 5) }
-    ensures { result ≡ best-step (second_at correlation.now table.now first) track 8 }
+    ensures { result ≡ best_step (second_at correlation.now table.now first) track 8 }
 {
     let sum = correlation[first];
     let squares = squares(correlation, sum, track);
@@ -186,7 +186,7 @@ fn third(
     track: usize,
 ) -> Step
     requires { (first < 40) × (one.place < 40) × (track < 5) }
-    ensures { result ≡ best-step (third_at correlation.now table.now first one) track 8 }
+    ensures { result ≡ best_step (third_at correlation.now table.now first one) track 8 }
 {
     let squares = squares(correlation, one.sum, track);
     let energies = third_energies(table, first, one, track);
@@ -203,7 +203,7 @@ fn fourth(
     track: usize,
 ) -> Step
     requires { (first < 40) × (second < 40) × (two.place < 40) × (track < 5) }
-    ensures { result ≡ best-step (fourth-at correlation.now table.now first second two) track 8 }
+    ensures { result ≡ best_step (fourth_at correlation.now table.now first second two) track 8 }
 {
     if (-18432 <= two.energy) & (two.energy <= 18431) {
         return plain_fourth(correlation, table, first, second, two, track);
@@ -220,7 +220,7 @@ fn plain_fourth(
     track: usize,
 ) -> Step
     requires { (first < 40) × (second < 40) × (two.place < 40) × (track < 5) × (mag two.energy < 18432) }
-    ensures { result ≡ best-step (fourth-at correlation.now table.now first second two) track 8 }
+    ensures { result ≡ best_step (fourth_at correlation.now table.now first second two) track 8 }
 {
     let squares = squares(correlation, two.sum, track);
     let energies = fourth_energies(table, first, second, two, track);
@@ -279,7 +279,7 @@ fn fourth_energies(
     track: usize,
 ) -> [i16; 8]
     requires { (first < 40) × (second < 40) × (two.place < 40) × (track < 5) × (mag two.energy < 18432) }
-    ensures { result ≡ tabulate (λ n. (fourth-at [] table.now first second two (track + 5 * n)).energy) 8 }
+    ensures { result ≡ tabulate (λ n. (fourth_at [] table.now first second two (track + 5 * n)).energy) 8 }
 {
     let third = two.place;
     let base = two.energy;
@@ -299,20 +299,20 @@ fn fourth_energies(
 
 // Sums of words by 1/4 and 1/2: nothing is clipped, so one shift and one rounding do.
 fn second_energy(base: i16, own: i16, cross: i16) -> i16
-    ensures { result ≡ round (L-mac (L-mac (L-mult base (pos 8192)) own (pos 8192)) cross (pos 16384)) }
+    ensures { result ≡ round (L_mac (L_mac (L_mult base (pos 8192)) own (pos 8192)) cross (pos 16384)) }
 {
     ((base as i32 + own as i32 + 2 * cross as i32 + 2) >> 2) as i16
 }
 
 fn third_energy(base: i16, own: i16, a: i16, b: i16) -> i16
-    ensures { result ≡ round (L-mac (L-mac (L-mac (L-mult base (pos 8192)) own (pos 2048)) a (pos 4096)) b (pos 4096)) }
+    ensures { result ≡ round (L_mac (L_mac (L_mac (L_mult base (pos 8192)) own (pos 2048)) a (pos 4096)) b (pos 4096)) }
 {
     ((4 * base as i32 + own as i32 + 2 * a as i32 + 2 * b as i32 + 8) >> 4) as i16
 }
 
 fn fourth_energy(base: i16, own: i16, a: i16, b: i16, c: i16) -> i16
     requires { mag base < 18432 }
-    ensures { result ≡ round (L-mac (L-mac (L-mac (L-mac (L-deposit-h base) own (pos 2048)) a (pos 4096)) b (pos 4096)) c (pos 4096)) }
+    ensures { result ≡ round (L_mac (L_mac (L_mac (L_mac (L_deposit_h base) own (pos 2048)) a (pos 4096)) b (pos 4096)) c (pos 4096)) }
 {
     ((16 * base as i32 + own as i32 + 2 * a as i32 + 2 * b as i32 + 2 * c as i32 + 8) >> 4) as i16
 }
@@ -326,7 +326,7 @@ fn best(
     track: usize,
 ) -> Step
     requires { track < 5 }
-    ensures { result ≡ best-step (λ p. record { place = p; sum = add sum (at correlation.now p); square = at squares.now (p / 5); energy = at energies.now (p / 5) }) track 8 }
+    ensures { result ≡ best_step (λ p. record { place = p; sum = add sum (at correlation.now p); square = at squares.now (p / 5); energy = at energies.now (p / 5) }) track 8 }
 {
     let mut found = POSITIONS_PER_TRACK;
     let mut square: i16 = -1;
@@ -358,7 +358,7 @@ fn clipped_fourth(
     track: usize,
 ) -> Step
     requires { (first < 40) × (second < 40) × (two.place < 40) × (track < 5) }
-    ensures { result ≡ best-step (fourth-at correlation.now table.now first second two) track 8 }
+    ensures { result ≡ best_step (fourth_at correlation.now table.now first second two) track 8 }
 {
     let mut held = codebook_steps::none_in(track);
     for n in 0..POSITIONS_PER_TRACK {
@@ -379,7 +379,7 @@ fn fourth_at(
     place: usize,
 ) -> Step
     requires { (first < 40) × (second < 40) × (two.place < 40) × (place < 40) }
-    ensures { result ≡ fourth-at correlation.now table.now first second two place }
+    ensures { result ≡ fourth_at correlation.now table.now first second two place }
 {
     let base = fixed::deposit_high(two.energy);
     let own = fixed::mac(base, cell(table, place, place), SIXTEENTH_Q15);

@@ -1,9 +1,9 @@
 -- One name for an `unfolding` line that computes the definitions of this crate.
-use Rattle.codebook.specs.Opens.{codebook-opens}
-use Rattle.codebook_sharpening.specs.Opens.{sharpening-opens}
-use Rattle.codebook_choice.specs.Opens.{choice-opens}
-use Rattle.codebook_code.specs.Codes.{positions-of, signs_of, through, through-all, in_order, filtered-at, filtered, build-code, chosen, of-correlation, of-impulse, code-4i40-17bits}
+use Rattle.codebook.specs.Opens.{codebook_opens}
+use Rattle.codebook_sharpening.specs.Opens.{sharpening_opens}
+use Rattle.codebook_choice.specs.Opens.{choice_opens}
+use Rattle.codebook_code.specs.Codes.{positions_of, signs_of, through, through_all, in_order, filtered_at, filtered, build_code, chosen, of_correlation, of_impulse, code_4i40_17bits}
 
-unfoldable pub code-opens : Unit {0}
-unfolding codebook-opens sharpening-opens choice-opens positions-of signs_of through through-all in_order filtered-at filtered build-code chosen of-correlation of-impulse code-4i40-17bits
-code-opens = tt
+unfoldable pub code_opens : Unit {0}
+unfolding codebook_opens sharpening_opens choice_opens positions_of signs_of through through_all in_order filtered_at filtered build_code chosen of_correlation of_impulse code_4i40_17bits
+code_opens = tt

@@ -5,7 +5,7 @@ ghost use Rattle.std.specs.Prelude.{◌≡◌, ◌<◌, pos};
 ghost use Rattle.std.specs.Int.Signed.{lt_z};
 ghost use Rattle.fixed.specs.Lists.{at};
 ghost use Rattle.codebook.specs.Words.{sign_bit};
-ghost use Rattle.codebook_code.specs.Codes.{positions-of, signs_of, full-sign, delayed, through, filtered-at, filtered, build-code, code-4i40-17bits};
+ghost use Rattle.codebook_code.specs.Codes.{positions_of, signs_of, full_sign, delayed, through, filtered_at, filtered, build_code, code_4i40_17bits};
 
 use codebook_sharpening::SharpeningGain;
 use codebook_steps::Trial;
@@ -33,7 +33,7 @@ pub fn searched(
     lag: usize,
     gain: SharpeningGain,
 ) -> SearchResult
-    ensures { result ≡ code-4i40-17bits target.now impulse_q12.now lag gain }
+    ensures { result ≡ code_4i40_17bits target.now impulse_q12.now lag gain }
 {
     let sharp = codebook_sharpening::doubled(gain);
     let impulse = codebook_sharpening::sharpened(impulse_q12, lag, sharp);
@@ -61,7 +61,7 @@ fn written(
     sharp_q15: i16,
 ) -> SearchResult
     requires { (chosen.first < 40) × (chosen.second < 40) × (chosen.third < 40) × (chosen.fourth < 40) }
-    ensures { result ≡ build-code chosen impulse.now signs.now lag sharp_q15 }
+    ensures { result ≡ build_code chosen impulse.now signs.now lag sharp_q15 }
 {
     let positions = positions_of(chosen);
     let sign_bits = signs_of(chosen, signs);
@@ -79,7 +79,7 @@ fn written(
 }
 
 fn positions_of(chosen: Trial) -> u16
-    ensures { result ≡ positions-of chosen }
+    ensures { result ≡ positions_of chosen }
 {
     codebook::position_bits(chosen.first)
         + codebook::position_bits(chosen.second)
@@ -118,7 +118,7 @@ fn filtered(chosen: Trial, impulse: &[i16; 40], signs: &[i16; 40]) -> [i16; 40]
 
 fn filtered_at(chosen: Trial, impulse: &[i16; 40], signs: &[i16; 40], i: usize) -> i16
     requires { (chosen.first < 40) × (chosen.second < 40) × (chosen.third < 40) × (chosen.fourth < 40) × (i < 40) }
-    ensures { result ≡ filtered-at chosen impulse.now signs.now i }
+    ensures { result ≡ filtered_at chosen impulse.now signs.now i }
 {
     let one = through(0, impulse, signs, chosen.first, i);
     let two = through(one, impulse, signs, chosen.second, i);
@@ -144,7 +144,7 @@ fn delayed(impulse: &[i16; 40], place: usize, i: usize) -> i16
 }
 
 fn full_sign(sign: i16) -> i16
-    ensures { result ≡ full-sign sign }
+    ensures { result ≡ full_sign sign }
 {
     if 0 < sign {
         return 32767;

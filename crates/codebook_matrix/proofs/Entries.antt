@@ -9,9 +9,9 @@ use lib.IntN.{ℤ, pos, *ℤ_comm}
 use lib.ListN.{length, set, length-set}
 use lib.Seq.{get_or-set_same, get_or-set_other}
 use borrow.Author.Tests.{eq-eqb, ne_eqb, eqb-true, eqb-false}
-use Rattle.fixed.specs.Operators.{mult, L-mult, round}
+use Rattle.fixed.specs.Operators.{mult, L_mult, round}
 use Rattle.fixed.specs.Lists.{at, tabulate}
-use Rattle.fixed.proofs.Lists.{filled-all, length-tabulate, at-tabulate}
+use Rattle.fixed.proofs.Lists.{filled_all, length_tabulate, at_tabulate}
 use Rattle.sums.proofs.Rows.{taken}
 use Rattle.codebook_matrix.specs.Matrices.{products, signed, entry}
 
@@ -22,25 +22,25 @@ eqb_comm i j = go (eqb i j) refl
     go true q = rw (q, eq-eqb j i (sym (eqb-true i j q)))
     go false q = rw (q, ne_eqb j i (λ (e : j ≡ i). eqb-false i j q (sym e)))
 
-mult-comm : (a b : ℤ) → mult a b ≡ mult b a
+mult_comm : (a b : ℤ) → mult a b ≡ mult b a
 unfolding mult
-mult-comm a b = rw (*ℤ_comm a b)
+mult_comm a b = rw (*ℤ_comm a b)
 
 pub mirror : (ns signs : List ℤ) (i j : ℕ) → entry ns signs i j ≡ entry ns signs j i
 unfolding entry
 mirror ns signs i j =
     let a : max i j ≡ max j i = omega arith in
     let b : min i j ≡ min j i = omega arith in
-    rw (a, b, eqb_comm i j, mult-comm (at signs i) (at signs j))
+    rw (a, b, eqb_comm i j, mult_comm (at signs i) (at signs j))
 
 -- ---- row j by its signs, and then its diagonal
-pub row-signed : (values signs row : List ℤ) (j : ℕ) (v : ℤ) → j < 40 → v ≡ at values j → row ≡ tabulate (λ i. mult (at values i) (mult (at signs i) (at signs j))) 40 →
+pub row_signed : (values signs row : List ℤ) (j : ℕ) (v : ℤ) → j < 40 → v ≡ at values j → row ≡ tabulate (λ i. mult (at values i) (mult (at signs i) (at signs j))) 40 →
     set row j v ≡ tabulate (λ i. signed signs i j (at values i)) 40
-row-signed values signs row j v h ev er =
-    filled-all (λ i. signed signs i j (at values i)) (pos 0) 40 (set row j v) (length-set row j v ∙ n40) (λ i l. go i l (eqb i j) refl)
+row_signed values signs row j v h ev er =
+    filled_all (λ i. signed signs i j (at values i)) (pos 0) 40 (set row j v) (length-set row j v ∙ n40) (λ i l. go i l (eqb i j) refl)
   where
     n40 : length row ≡ 40
-    n40 = ap length er ∙ length-tabulate (λ i. mult (at values i) (mult (at signs i) (at signs j))) (pos 0) 40
+    n40 = ap length er ∙ length_tabulate (λ i. mult (at values i) (mult (at signs i) (at signs j))) (pos 0) 40
 
     go : (i : ℕ) → i < 40 → (t : Bool) → eqb i j ≡ t → at (set row j v) i ≡ signed signs i j (at values i)
     go i l true q =
@@ -49,12 +49,12 @@ row-signed values signs row j v h ev er =
     go i l false q =
         rw q
         (get_or-set_other row j i v (pos 0) (eqb-false i j q) ∙ ap (λ (xs : List ℤ). at xs i) er
-        ∙ at-tabulate (λ i. mult (at values i) (mult (at signs i) (at signs j))) (pos 0) 40 i l)
+        ∙ at_tabulate (λ i. mult (at values i) (mult (at signs i) (at signs j))) (pos 0) 40 i l)
 
 -- ---- the sums of all distances, side by side
 -- term k of the sum of a distance, and how many terms that sum has
 abbrev pub term : List ℤ → ℕ → ℕ → ℤ
-term ns d k = L-mult (at ns k) (at ns (k + d))
+term ns d k = L_mult (at ns k) (at ns (k + d))
 
 abbrev pub terms : ℕ → ℕ
 terms d = 40 - d

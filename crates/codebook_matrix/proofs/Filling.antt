@@ -11,7 +11,7 @@ use lib.ListN.{length, get_or, set, replicate, length-set, length-replicate, get
 use lib.Seq.{get_or-set_same, get_or-set_other}
 use borrow.Author.Tests.{eqb-true, eqb-false, leb-true, leb-false}
 use Rattle.fixed.specs.Lists.{tabulate}
-use Rattle.fixed.proofs.Lists.{filled-all}
+use Rattle.fixed.proofs.Lists.{filled_all}
 use Rattle.codebook_matrix.specs.Matrices.{cell}
 
 -- ---- one store
@@ -39,8 +39,8 @@ module _ (m : List (List ℤ)) (i j : ℕ) (v : ℤ) (sq : Square m) (hi : i < 4
   row_other : (a : ℕ) → (a ≡ i → ⊥) → get_or (put m i j v) a [] ≡ get_or m a []
   row_other a n = get_or-set_other m i a (set (get_or m i []) j v) [] n
 
-  put-here : cell (put m i j v) i j ≡ v
-  put-here = rw row_at (get_or-set_same (get_or m i []) j v (pos 0) (omega (arith, sq.places i hi)))
+  put_here : cell (put m i j v) i j ≡ v
+  put_here = rw row_at (get_or-set_same (get_or m i []) j v (pos 0) (omega (arith, sq.places i hi)))
 
   put_other : (a b : ℕ) → (a ≡ i → b ≡ j → ⊥) → cell (put m i j v) a b ≡ cell m a b
   put_other a b n = ⊎_elim same (λ o. rw (row_other a o)) (equal a i)
@@ -48,8 +48,8 @@ module _ (m : List (List ℤ)) (i j : ℕ) (v : ℤ) (sq : Square m) (hi : i < 4
       same : a ≡ i → cell (put m i j v) a b ≡ cell m a b
       same e = rw (e, row_at) (get_or-set_other (get_or m i []) j b v (pos 0) (λ f. n e f))
 
-  put-square : Square (put m i j v)
-  put-square =
+  put_square : Square (put m i j v)
+  put_square =
       record {
         rows = length-set m i (set (get_or m i []) j v) ∙ sq.rows;
         places = λ a h. ⊎_elim (λ e. same a e) (λ o. rw (row_other a o) (sq.places a h)) (equal a i);
@@ -73,15 +73,15 @@ module _ (f : ℕ → ℕ → ℤ) (mirror : (a b : ℕ) → f a b ≡ f b a) wh
     pub square : Square m
     pub cells : (a b : ℕ) → a < 40 → b < 40 → 40 - k ≤ max a b → cell m a b ≡ f a b
 
-  pub nothing-filled : Rows (replicate 40 (replicate 40 (pos 0))) 0
-  nothing-filled =
+  pub nothing_filled : Rows (replicate 40 (replicate 40 (pos 0))) 0
+  nothing_filled =
       record {
         square = record { rows = length-replicate 40 (replicate 40 (pos 0)); places = λ a l. rw (get_or-replicate 40 a (replicate 40 (pos 0)) [] l) (length-replicate 40 (pos 0)) };
         cells = λ a b ha hb w. absurd (omega arith);
       }
 
-  pub row-begins : (m : List (List ℤ)) (k : ℕ) → k < 40 → Rows m k → Filled m (39 - k) 0
-  row-begins m k h r = record { square = r.square; cells = λ a b ha hb w. r.cells a b ha hb (older a b w) }
+  pub row_begins : (m : List (List ℤ)) (k : ℕ) → k < 40 → Rows m k → Filled m (39 - k) 0
+  row_begins m k h r = record { square = r.square; cells = λ a b ha hb w. r.cells a b ha hb (older a b w) }
     where
       older : (a b : ℕ) → Before (39 - k) 0 a b → 40 - k ≤ max a b
       older a b w = ⊎_elim (λ (x : suc (39 - k) ≤ max a b). omega arith) (λ (x : (max a b ≡ 39 - k) × (min a b < 0)). absurd (omega (arith, x.1))) w
@@ -94,10 +94,10 @@ module _ (f : ℕ → ℕ → ℤ) (mirror : (a b : ℕ) → f a b ≡ f b a) wh
       go a b w false q = let o = leb-false (40 - k) (max a b) q in inr (omega arith, omega arith)
 
   pub one_more : (m : List (List ℤ)) (j i : ℕ) (v : ℤ) → i ≤ j → j < 40 → v ≡ f i j → Filled m j i → Filled (put (put m i j v) j i v) j (i + 1)
-  one_more m j i v l u e r = record { square = put-square (put m i j v) j i v first u (omega arith); cells = λ a b ha hb w. at-ji a b ha hb w (equal a j) (equal b i) }
+  one_more m j i v l u e r = record { square = put_square (put m i j v) j i v first u (omega arith); cells = λ a b ha hb w. at_ji a b ha hb w (equal a j) (equal b i) }
     where
       first : Square (put m i j v)
-      first = put-square m i j v r.square (omega arith) u
+      first = put_square m i j v r.square (omega arith) u
 
       -- neither place: it was there before
       older : (a b : ℕ) → Before j (i + 1) a b → (a ≡ i → b ≡ j → ⊥) → (a ≡ j → b ≡ i → ⊥) → Before j i a b
@@ -107,23 +107,23 @@ module _ (f : ℕ → ℕ → ℤ) (mirror : (a b : ℕ) → f a b ≡ f b a) wh
           go x true q = let z = leb-true a b q in ⊎_elim (λ (y : a ≡ i). absurd (n y (omega (arith, x.0)))) (λ (y : a ≡ i → ⊥). omega (arith, y, x.1)) (equal a i)
           go x false q = let z = leb-false a b q in ⊎_elim (λ (y : b ≡ i). absurd (o (omega (arith, x.0)) y)) (λ (y : b ≡ i → ⊥). omega (arith, y, x.1)) (equal b i)
 
-      at-ij : (a b : ℕ) → a < 40 → b < 40 → Before j (i + 1) a b → (a ≡ j → b ≡ i → ⊥) → cell (put m i j v) a b ≡ f a b
-      at-ij a b ha hb w o = go (equal a i) (equal b j)
+      at_ij : (a b : ℕ) → a < 40 → b < 40 → Before j (i + 1) a b → (a ≡ j → b ≡ i → ⊥) → cell (put m i j v) a b ≡ f a b
+      at_ij a b ha hb w o = go (equal a i) (equal b j)
         where
           elsewhere : (a ≡ i → b ≡ j → ⊥) → cell (put m i j v) a b ≡ f a b
           elsewhere n = put_other m i j v r.square (omega arith) u a b n ∙ r.cells a b ha hb (older a b w n o)
 
           go : (a ≡ i) ⊎ (a ≡ i → ⊥) → (b ≡ j) ⊎ (b ≡ j → ⊥) → cell (put m i j v) a b ≡ f a b
-          go (inl p) (inl q) = rw (p, q) (put-here m i j v r.square (omega arith) u ∙ e)
+          go (inl p) (inl q) = rw (p, q) (put_here m i j v r.square (omega arith) u ∙ e)
           go (inl p) (inr q) = elsewhere (λ _ z. q z)
           go (inr p) q = elsewhere (λ z _. p z)
 
-      at-ji : (a b : ℕ) → a < 40 → b < 40 → Before j (i + 1) a b → (a ≡ j) ⊎ (a ≡ j → ⊥) → (b ≡ i) ⊎ (b ≡ i → ⊥) → cell (put (put m i j v) j i v) a b ≡ f a b
-      at-ji a b ha hb w (inl p) (inl q) = rw (p, q) (put-here (put m i j v) j i v first u (omega arith) ∙ (e ∙ mirror i j))
-      at-ji a b ha hb w (inl p) (inr q) = put_other (put m i j v) j i v first u (omega arith) a b (λ _ z. q z) ∙ at-ij a b ha hb w (λ _ z. q z)
-      at-ji a b ha hb w (inr p) q = put_other (put m i j v) j i v first u (omega arith) a b (λ z _. p z) ∙ at-ij a b ha hb w (λ z _. p z)
+      at_ji : (a b : ℕ) → a < 40 → b < 40 → Before j (i + 1) a b → (a ≡ j) ⊎ (a ≡ j → ⊥) → (b ≡ i) ⊎ (b ≡ i → ⊥) → cell (put (put m i j v) j i v) a b ≡ f a b
+      at_ji a b ha hb w (inl p) (inl q) = rw (p, q) (put_here (put m i j v) j i v first u (omega arith) ∙ (e ∙ mirror i j))
+      at_ji a b ha hb w (inl p) (inr q) = put_other (put m i j v) j i v first u (omega arith) a b (λ _ z. q z) ∙ at_ij a b ha hb w (λ _ z. q z)
+      at_ji a b ha hb w (inr p) q = put_other (put m i j v) j i v first u (omega arith) a b (λ z _. p z) ∙ at_ij a b ha hb w (λ z _. p z)
 
-  pub all-filled : (m : List (List ℤ)) → Rows m 40 → m ≡ tabulate (λ a. tabulate (f a) 40) 40
-  all-filled m r =
-      filled-all (λ a. tabulate (f a) 40) [] 40 m r.square.rows
-      (λ a h. filled-all (f a) (pos 0) 40 (get_or m a []) (r.square.places a h) (λ b l. r.cells a b h l (omega arith)))
+  pub all_filled : (m : List (List ℤ)) → Rows m 40 → m ≡ tabulate (λ a. tabulate (f a) 40) 40
+  all_filled m r =
+      filled_all (λ a. tabulate (f a) 40) [] 40 m r.square.rows
+      (λ a h. filled_all (f a) (pos 0) 40 (get_or m a []) (r.square.places a h) (λ b l. r.cells a b h l (omega arith)))

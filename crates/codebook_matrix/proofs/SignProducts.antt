@@ -10,8 +10,8 @@ use lib.Signed.{mag, shr_z}
 use borrow.Author.Tests.{lt-ltb, le-ltb, ltb-true, ltb-false}
 use Rattle.fixed.specs.Clip.{clip}
 use Rattle.fixed.specs.Operators.{mult}
-use Rattle.fixed.proofs.Clips.{clip-fits}
-use Rattle.fixed.proofs.Signs.{neg-pos, pos-sub}
+use Rattle.fixed.proofs.Clips.{clip_fits}
+use Rattle.fixed.proofs.Signs.{neg_pos, pos_sub}
 
 -- differences of natural numbers
 under : (a b : ℕ) → a < b → sub_ℕ a b ≡ negsuc (b - suc a)
@@ -28,7 +28,7 @@ up (negsuc (suc m)) = negsuc (m - suc m / 2)
 
 pub up_is : (v : ℤ) → v -ℤ shr_z v 2 ≡ up v
 unfolding up
-up_is (pos n) = pos-sub n (n / 2) (omega arith)
+up_is (pos n) = pos_sub n (n / 2) (omega arith)
 up_is (negsuc zero) = refl
 up_is (negsuc (suc m)) = under (suc (suc m / 2)) (suc (suc m)) (omega arith) ∙ ap negsuc (omega arith)
 
@@ -39,15 +39,15 @@ up_small (negsuc zero) h = omega arith
 up_small (negsuc (suc m)) h = omega arith
 
 -- by 32766
-pub same-is : (v : ℤ) → mag v < 2 ^ 15 → mult v (pos 32766) ≡ v -ℤ shr_z (up v +ℤ pos 8191) 8192
+pub same_is : (v : ℤ) → mag v < 2 ^ 15 → mult v (pos 32766) ≡ v -ℤ shr_z (up v +ℤ pos 8191) 8192
 unfolding mult up
-same-is (pos n) h = ap pos (omega arith) ∙ sym (pos-sub n ((n - n / 2 + 8191) / 8192) (omega arith))
-same-is (negsuc zero) h = refl
-same-is (negsuc (suc m)) h = product ∙ go (ltb 8191 (suc (m - suc m / 2))) refl
+same_is (pos n) h = ap pos (omega arith) ∙ sym (pos_sub n ((n - n / 2 + 8191) / 8192) (omega arith))
+same_is (negsuc zero) h = refl
+same_is (negsuc (suc m)) h = product ∙ go (ltb 8191 (suc (m - suc m / 2))) refl
   where
     product : mult (negsuc (suc m)) (pos 32766) ≡ negsuc ((suc (suc m) * 32766 - 1) / 32768)
     product =
-        ap (λ (z : ℤ). clip 15 (shr_z z 32768)) (neg-pos (suc (suc m) * 32766) (suc (suc m) * 32766 - 1) (omega arith))
+        ap (λ (z : ℤ). clip 15 (shr_z z 32768)) (neg_pos (suc (suc m) * 32766) (suc (suc m) * 32766 - 1) (omega arith))
         ∙ ap negsuc (omega arith)
 
     go : (t : Bool) → ltb 8191 (suc (m - suc m / 2)) ≡ t →
@@ -62,13 +62,13 @@ same-is (negsuc (suc m)) h = product ∙ go (ltb 8191 (suc (m - suc m / 2))) ref
         rw (over 8191 (suc (m - suc m / 2)) l, e) (ap negsuc (omega arith) ∙ sym (+ℤ_idr (negsuc (suc m))))
 
 -- by -32767
-pub other-is : (v : ℤ) → mag v < 2 ^ 15 → mult v (negsuc 32766) ≡ shr_z v 32768 -ℤ v
+pub other_is : (v : ℤ) → mag v < 2 ^ 15 → mult v (negsuc 32766) ≡ shr_z v 32768 -ℤ v
 unfolding mult
-other-is (pos zero) h = refl
-other-is (pos (suc m)) h =
+other_is (pos zero) h = refl
+other_is (pos (suc m)) h =
     let e : suc m / 32768 ≡ 0 = omega arith in
-    rw e (ap (λ (z : ℤ). clip 15 (shr_z z 32768)) (neg-pos (suc m * 32767) (suc m * 32767 - 1) (omega arith)) ∙ ap negsuc (omega arith) ∙ sym (under 0 (suc m) (omega arith)))
-other-is (negsuc n) h =
+    rw e (ap (λ (z : ℤ). clip 15 (shr_z z 32768)) (neg_pos (suc m * 32767) (suc m * 32767 - 1) (omega arith)) ∙ ap negsuc (omega arith) ∙ sym (under 0 (suc m) (omega arith)))
+other_is (negsuc n) h =
     let e : n / 32768 ≡ 0 = omega arith in
     rw e (ap pos (omega arith) ∙ sym (over (suc n) 1 (omega arith)))
 
@@ -90,6 +90,6 @@ other_sign a b e f n =
     (full a e)
 
 -- such a product is a word
-pub mult-fits : (a b : ℤ) → mag (mult a b) < 2 ^ 15
+pub mult_fits : (a b : ℤ) → mag (mult a b) < 2 ^ 15
 unfolding mult
-mult-fits a b = clip-fits 15 (shr_z (a *ℤ b) 32768)
+mult_fits a b = clip_fits 15 (shr_z (a *ℤ b) 32768)

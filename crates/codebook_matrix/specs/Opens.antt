@@ -1,8 +1,8 @@
 -- One name for an `unfolding` line that computes the definitions of this crate.
-use Rattle.fixed.specs.Opens.{fixed-opens}
-use Rattle.energy.specs.Opens.{energy-opens}
-use Rattle.codebook_matrix.specs.Matrices.{energy, gain-of, scaled-by, normalised, products, entry, row, correlations, cor-h}
+use Rattle.fixed.specs.Opens.{fixed_opens}
+use Rattle.energy.specs.Opens.{energy_opens}
+use Rattle.codebook_matrix.specs.Matrices.{energy, gain_of, scaled_by, normalised, products, entry, row, correlations, cor_h}
 
-unfoldable pub matrix-opens : Unit {0}
-unfolding fixed-opens energy-opens energy gain-of scaled-by normalised products entry row correlations cor-h
-matrix-opens = tt
+unfoldable pub matrix_opens : Unit {0}
+unfolding fixed_opens energy_opens energy gain_of scaled_by normalised products entry row correlations cor_h
+matrix_opens = tt

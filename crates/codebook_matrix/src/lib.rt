@@ -2,10 +2,10 @@
 #![tactic(auto)]
 
 ghost use Rattle.std.specs.Prelude.{◌≡◌, true, ℕ, ◌+◌, ◌-◌, ◌<◌, pos, negsuc, nat_abs, ◌*ℤ◌};
-ghost use Rattle.fixed.specs.Operators.{mult, round, L-mult, L-shl};
+ghost use Rattle.fixed.specs.Operators.{mult, round, L_mult, L_shl};
 ghost use Rattle.fixed.specs.Lists.{at, tabulate};
 ghost use Rattle.sums.specs.Plain.{squared};
-ghost use Rattle.codebook_matrix.specs.Matrices.{energy, gain-of, scaled-by, normalised, signed, correlations, cor-h};
+ghost use Rattle.codebook_matrix.specs.Matrices.{energy, gain_of, scaled_by, normalised, signed, correlations, cor_h};
 
 const SUBFRAME_SAMPLES: usize = 40;
 
@@ -19,7 +19,7 @@ const IMPULSE_HEADROOM_Q15: i16 = 32440;
 const ROOM: i32 = 2147450880;
 
 pub fn impulse_correlation(impulse: &[i16; 40], signs: &[i16; 40]) -> [[i16; 40]; 40]
-    ensures { result ≡ cor-h impulse.now signs.now }
+    ensures { result ≡ cor_h impulse.now signs.now }
 {
     correlations(&normalized(impulse), signs)
 }
@@ -43,7 +43,7 @@ fn energy(impulse: &[i16; 40]) -> i32
 }
 
 fn gain(energy: i32) -> i16
-    ensures { result ≡ gain-of energy }
+    ensures { result ≡ gain_of energy }
 {
     let root = energy::inverse_sqrt(fixed::shift(energy, -1));
     fixed::fractional(
@@ -53,7 +53,7 @@ fn gain(energy: i32) -> i16
 }
 
 fn scaled(impulse: &[i16; 40], gain: i16) -> [i16; 40]
-    ensures { result ≡ scaled-by gain impulse.now }
+    ensures { result ≡ scaled_by gain impulse.now }
 {
     let mut words = [0i16; 40];
     for i in 0..SUBFRAME_SAMPLES {
@@ -64,7 +64,7 @@ fn scaled(impulse: &[i16; 40], gain: i16) -> [i16; 40]
 
 // The doubled product shifted to the left by 9 and rounded, in one shift and one clip.
 fn scaled_word(word: i16, gain: i16) -> i16
-    ensures { result ≡ round (L-shl (L-mult word gain) (pos 9)) }
+    ensures { result ≡ round (L_shl (L_mult word gain) (pos 9)) }
 {
     fixed::clip16((fixed::exact(word, gain) + 32) >> 6)
 }

@@ -1,18 +1,18 @@
 -- The entry of the pulse search behind 01's checks.
 use Rattle.std.specs.Prelude.{List, [], ◌∷◌, ℕ, ℤ}
 use Rattle.refusal.specs.Refused.{Told, values, turned_down}
-use Rattle.refusal.specs.Checks.{Outcome, unless-refused, length-is, pulse-lag}
+use Rattle.refusal.specs.Checks.{Outcome, unless_refused, length_is, pulse_lag}
 use Rattle.codebook_sharpening.specs.declared.SharpeningGain.{SharpeningGain}
 use Rattle.codebook_code.specs.declared.PulseWords.{PulseWords}
 use Rattle.codebook_code.specs.declared.SearchResult.{SearchResult}
-use Rattle.codebook_code.specs.Codes.{code-4i40-17bits}
+use Rattle.codebook_code.specs.Codes.{code_4i40_17bits}
 use Rattle.codebook_search.specs.declared.Pulses.{Pulses}
 use Rattle.codebook_search.specs.declared.Pulses.TheVariants.{Words, Refused}
 
 -- an answer as 01 gives it: positions and signs
-abbrev pub told-words : Pulses → Told PulseWords
-told-words (Words w) = values w
-told-words (Refused r) = turned_down r
+abbrev pub told_words : Pulses → Told PulseWords
+told_words (Words w) = values w
+told_words (Refused r) = turned_down r
 
 -- the three lists that are lent
 pub record Lists : Type 0 where
@@ -30,6 +30,6 @@ accepted r = record { answer = values r.words; after = lent r.innovation_q13 r.f
 -- `search`: 01, number 1, 'in the order of the Rust's arguments, a list to be written last', then number 6
 unfoldable pub pulses : List ℤ → List ℤ → ℕ → SharpeningGain → Lists → Outcome PulseWords Lists
 pulses xs hs lag gain out =
-    unless-refused
-    (length-is 40 xs ∷ length-is 40 hs ∷ length-is 40 out.innovation ∷ length-is 40 out.filtered ∷ length-is 40 out.impulse ∷ pulse-lag lag ∷ [])
-    out (accepted (code-4i40-17bits xs hs lag gain))
+    unless_refused
+    (length_is 40 xs ∷ length_is 40 hs ∷ length_is 40 out.innovation ∷ length_is 40 out.filtered ∷ length_is 40 out.impulse ∷ pulse_lag lag ∷ [])
+    out (accepted (code_4i40_17bits xs hs lag gain))

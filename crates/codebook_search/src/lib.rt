@@ -2,7 +2,7 @@
 #![tactic(auto)]
 
 ghost use Rattle.std.specs.Prelude.{◌≡◌};
-ghost use Rattle.codebook_search.specs.Pulses.{told-words, lent, pulses};
+ghost use Rattle.codebook_search.specs.Pulses.{told_words, lent, pulses};
 
 use codebook_code::PulseWords;
 use codebook_sharpening::SharpeningGain;
@@ -29,7 +29,7 @@ pub fn search(
     filtered_q12: &mut [i16],
     sharpened_impulse_q12: &mut [i16],
 ) -> Pulses
-    ensures { (told-words result ≡ (pulses target.now impulse_q12.now lag pitch_sharp_q14 (lent innovation_q13.old filtered_q12.old sharpened_impulse_q12.old)).answer)
+    ensures { (told_words result ≡ (pulses target.now impulse_q12.now lag pitch_sharp_q14 (lent innovation_q13.old filtered_q12.old sharpened_impulse_q12.old)).answer)
         × (lent innovation_q13.new filtered_q12.new sharpened_impulse_q12.new ≡ (pulses target.now impulse_q12.now lag pitch_sharp_q14 (lent innovation_q13.old filtered_q12.old sharpened_impulse_q12.old)).after) }
 {
     if target.len() != SUBFRAME_SAMPLES {

@@ -1,7 +1,7 @@
 -- One name for an `unfolding` line that computes the definitions of this crate.
-use Rattle.fixed.specs.Opens.{fixed-opens}
-use Rattle.codebook_sharpening.specs.Sharpenings.{doubled, raised, sharpened-to, sharpened}
+use Rattle.fixed.specs.Opens.{fixed_opens}
+use Rattle.codebook_sharpening.specs.Sharpenings.{doubled, raised, sharpened_to, sharpened}
 
-unfoldable pub sharpening-opens : Unit {0}
-unfolding fixed-opens doubled raised sharpened-to sharpened
-sharpening-opens = tt
+unfoldable pub sharpening_opens : Unit {0}
+unfolding fixed_opens doubled raised sharpened_to sharpened
+sharpening_opens = tt

@@ -13,10 +13,10 @@ unfoldable pub raised : List ℤ → ℕ → ℤ → ℕ → List ℤ
 raised xs lag sharp n = set xs (lag + n) (add (at xs (lag + n)) (mult (at xs n) sharp))
 
 -- 'from place = lag up': the first n of these places
-unfoldable pub sharpened-to : List ℤ → ℕ → ℤ → ℕ → List ℤ
-sharpened-to xs lag sharp zero = xs
-sharpened-to xs lag sharp (suc n) = raised (sharpened-to xs lag sharp n) lag sharp n
+unfoldable pub sharpened_to : List ℤ → ℕ → ℤ → ℕ → List ℤ
+sharpened_to xs lag sharp zero = xs
+sharpened_to xs lag sharp (suc n) = raised (sharpened_to xs lag sharp n) lag sharp n
 
 -- and all of them
 unfoldable pub sharpened : List ℤ → ℕ → ℤ → List ℤ
-sharpened xs lag sharp = sharpened-to xs lag sharp (40 - lag)
+sharpened xs lag sharp = sharpened_to xs lag sharp (40 - lag)

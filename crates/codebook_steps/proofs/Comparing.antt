@@ -11,9 +11,9 @@ use mir.Syntax.{w16}
 use mir.Val.{SFits}
 use borrow.Author.Tests.{ltb-true, ltb-false, le-ltb, lt-ltb}
 use Rattle.fixed.specs.Clip.{clip}
-use Rattle.fixed.specs.Operators.{L-sub, L-mult, L-msu}
-use Rattle.fixed.proofs.Bounds.{abs-mul, abs-fits}
-use Rattle.fixed.proofs.Signs.{neg-pos, pos-sub, sub-above, sub-le}
+use Rattle.fixed.specs.Operators.{L_sub, L_mult, L_msu}
+use Rattle.fixed.proofs.Bounds.{abs_mul, abs_fits}
+use Rattle.fixed.proofs.Signs.{neg_pos, pos_sub, sub_above, sub_le}
 use Rattle.codebook_steps.specs.Steps.{exceeds}
 
 -- a test that comes out as another one
@@ -22,37 +22,37 @@ same a b c d true e p q = lt-ltb a b (p (ltb-true c d e)) ∙ sym e
 same a b c d false e p q = le-ltb a b (q (ltb-false c d e)) ∙ sym e
 
 -- a clip keeps the sign
-sign-clip : (z : ℤ) → lt_z (pos 0) (clip 31 z) ≡ lt_z (pos 0) z
-sign-clip (pos n) = same 0 (min n 2147483647) 0 n (ltb 0 n) refl (λ h. omega arith) (λ h. omega arith)
-sign-clip (negsuc n) = refl
+sign_clip : (z : ℤ) → lt_z (pos 0) (clip 31 z) ≡ lt_z (pos 0) z
+sign_clip (pos n) = same 0 (min n 2147483647) 0 n (ltb 0 n) refl (λ h. omega arith) (λ h. omega arith)
+sign_clip (negsuc n) = refl
 
 -- a difference is positive where the second number is below the first
-sign-sub : (a b : ℤ) → lt_z (pos 0) (a -ℤ b) ≡ lt_z b a
-sign-sub (pos a) (pos b) = go (ltb b a) refl
+sign_sub : (a b : ℤ) → lt_z (pos 0) (a -ℤ b) ≡ lt_z b a
+sign_sub (pos a) (pos b) = go (ltb b a) refl
   where
     go : (t : Bool) → ltb b a ≡ t → lt_z (pos 0) (pos a -ℤ pos b) ≡ ltb b a
     go true e =
         let l = ltb-true b a e in
-        rw (pos-sub a b (omega arith)) (same 0 (a - b) b a true e (λ h. omega arith) (λ h. omega arith))
+        rw (pos_sub a b (omega arith)) (same 0 (a - b) b a true e (λ h. omega arith) (λ h. omega arith))
     go false e = le a b (ltb-false b a e) ∙ sym e
       where
         le : (a b : ℕ) → a ≤ b → lt_z (pos 0) (pos a -ℤ pos b) ≡ false
         le a b h = below (ltb a b) refl
           where
             below : (t : Bool) → ltb a b ≡ t → lt_z (pos 0) (pos a -ℤ pos b) ≡ false
-            below true f = rw (sub-above a b (ltb-true a b f))
+            below true f = rw (sub_above a b (ltb-true a b f))
             below false f =
                 let l = ltb-false a b f in
-                rw (pos-sub a b l) (le-ltb 0 (a - b) (omega arith))
-sign-sub (pos a) (negsuc b) = lt-ltb 0 (a + suc b) (omega arith)
-sign-sub (negsuc a) (pos zero) = rw (lt-ltb 0 (suc a) (omega arith))
-sign-sub (negsuc a) (pos (suc b)) = refl
-sign-sub (negsuc a) (negsuc b) = go (ltb a b) refl
+                rw (pos_sub a b l) (le-ltb 0 (a - b) (omega arith))
+sign_sub (pos a) (negsuc b) = lt-ltb 0 (a + suc b) (omega arith)
+sign_sub (negsuc a) (pos zero) = rw (lt-ltb 0 (suc a) (omega arith))
+sign_sub (negsuc a) (pos (suc b)) = refl
+sign_sub (negsuc a) (negsuc b) = go (ltb a b) refl
   where
     go : (t : Bool) → ltb a b ≡ t → lt_z (pos 0) (sub_ℕ (suc b) (suc a)) ≡ ltb a b
     go true e =
         let l = ltb-true a b e in
-        rw (sub-le (suc b) (suc a) (omega arith)) (same 0 (suc b - suc a) a b true e (λ h. omega arith) (λ h. omega arith))
+        rw (sub_le (suc b) (suc a) (omega arith)) (same 0 (suc b - suc a) a b true e (λ h. omega arith) (λ h. omega arith))
     go false e = under (ltb (suc b) (suc a)) refl
       where
         under : (t : Bool) → ltb (suc b) (suc a) ≡ t → lt_z (pos 0) (sub_ℕ (suc b) (suc a)) ≡ ltb a b
@@ -60,24 +60,24 @@ sign-sub (negsuc a) (negsuc b) = go (ltb a b) refl
         under false f =
             let l = ltb-false a b e in
             let k = ltb-false (suc b) (suc a) f in
-            rw (sub-le (suc b) (suc a) k) (le-ltb 0 (suc b - suc a) (omega arith) ∙ sym e)
+            rw (sub_le (suc b) (suc a) k) (le-ltb 0 (suc b - suc a) (omega arith) ∙ sym e)
 
 -- doubled and clipped, numbers up to 2 ^ 30 keep their order
 order : (q p : ℤ) → nat_abs q ≤ 2 ^ 30 → nat_abs p ≤ 2 ^ 30 → lt_z (clip 31 (pos 2 *ℤ q)) (clip 31 (pos 2 *ℤ p)) ≡ lt_z q p
 order (pos q) (pos p) h g = same (min (2 * q) 2147483647) (min (2 * p) 2147483647) q p (ltb q p) refl (λ l. omega arith) (λ l. omega arith)
-order (pos q) (negsuc p) h g = rw (neg-pos (2 * suc p) (2 * p + 1) (omega arith))
-order (negsuc q) (pos p) h g = rw (neg-pos (2 * suc q) (2 * q + 1) (omega arith))
+order (pos q) (negsuc p) h g = rw (neg_pos (2 * suc p) (2 * p + 1) (omega arith))
+order (negsuc q) (pos p) h g = rw (neg_pos (2 * suc q) (2 * q + 1) (omega arith))
 order (negsuc q) (negsuc p) h g =
-    rw (neg-pos (2 * suc q) (2 * q + 1) (omega arith), neg-pos (2 * suc p) (2 * p + 1) (omega arith))
+    rw (neg_pos (2 * suc q) (2 * q + 1) (omega arith), neg_pos (2 * suc p) (2 * p + 1) (omega arith))
     (same (min (2 * p + 1) 2147483647) (min (2 * q + 1) 2147483647) p q (ltb p q) refl (λ l. omega arith) (λ l. omega arith))
 
 product_small : {a b : ℤ} → SFits w16 a → SFits w16 b → nat_abs (a *ℤ b) ≤ 2 ^ 30
-product_small {a} {b} f g = let l = mul-le-mul (abs-fits f) (abs-fits g) in omega (arith, abs-mul a b)
+product_small {a} {b} f g = let l = mul-le-mul (abs_fits f) (abs_fits g) in omega (arith, abs_mul a b)
 
-pub exceeds-plain : {square energy held-square held-energy : ℤ} → SFits w16 square → SFits w16 energy → SFits w16 held-square → SFits w16 held-energy →
-    exceeds square energy held-square held-energy ≡ lt_z (held-square *ℤ energy) (held-energy *ℤ square)
-unfolding L-msu L-sub L-mult
-exceeds-plain {square} {energy} {held-square} {held-energy} f g h i =
-    sign-clip (clip 31 (pos 2 *ℤ (held-energy *ℤ square)) -ℤ clip 31 (pos 2 *ℤ (held-square *ℤ energy)))
-    ∙ sign-sub (clip 31 (pos 2 *ℤ (held-energy *ℤ square))) (clip 31 (pos 2 *ℤ (held-square *ℤ energy)))
-    ∙ order (held-square *ℤ energy) (held-energy *ℤ square) (product_small h g) (product_small i f)
+pub exceeds_plain : {square energy held_square held_energy : ℤ} → SFits w16 square → SFits w16 energy → SFits w16 held_square → SFits w16 held_energy →
+    exceeds square energy held_square held_energy ≡ lt_z (held_square *ℤ energy) (held_energy *ℤ square)
+unfolding L_msu L_sub L_mult
+exceeds_plain {square} {energy} {held_square} {held_energy} f g h i =
+    sign_clip (clip 31 (pos 2 *ℤ (held_energy *ℤ square)) -ℤ clip 31 (pos 2 *ℤ (held_square *ℤ energy)))
+    ∙ sign_sub (clip 31 (pos 2 *ℤ (held_energy *ℤ square))) (clip 31 (pos 2 *ℤ (held_square *ℤ energy)))
+    ∙ order (held_square *ℤ energy) (held_energy *ℤ square) (product_small h g) (product_small i f)

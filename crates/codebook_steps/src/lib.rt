@@ -2,7 +2,7 @@
 #![tactic(auto)]
 
 ghost use Rattle.std.specs.Prelude.{◌≡◌};
-ghost use Rattle.codebook_steps.specs.Steps.{step-to, exceeds, better, none_in, kept};
+ghost use Rattle.codebook_steps.specs.Steps.{step_to, exceeds, better, none_in, kept};
 
 // A pulse more: the sum of the correlations so far, its square, the energy so far.
 #[derive(Clone, Copy)]
@@ -25,7 +25,7 @@ pub struct Trial {
 }
 
 pub fn step_to(place: usize, sum: i16, energy: i32) -> Step
-    ensures { result ≡ step-to place sum energy }
+    ensures { result ≡ step_to place sum energy }
 {
     Step {
         place,

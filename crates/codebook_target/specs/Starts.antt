@@ -1,7 +1,7 @@
 -- TS 26.073 set_sign: the signs of the pulses, the magnitudes, and where a pulse may start.
 use Rattle.std.specs.Prelude.{Bool, cond, ◌&&◌, List, ℕ, zero, suc, ◌+◌, ◌*◌, ◌/◌, ℤ, pos, negsuc, set}
 use Rattle.std.specs.Int.Signed.{lt_z, le_z}
-use Rattle.fixed.specs.Operators.{abs-s}
+use Rattle.fixed.specs.Operators.{abs_s}
 use Rattle.fixed.specs.Lists.{at, tabulate}
 use Rattle.codebook_target.specs.declared.Smallest.{Smallest}
 
@@ -14,8 +14,8 @@ unfoldable pub signs_of : List ℤ → List ℤ
 signs_of cs = tabulate (λ i. sign_of (at cs i)) 40
 
 -- 'modify dn[] according to the fixed sign': the magnitudes
-unfoldable pub magnitudes-of : List ℤ → List ℤ
-magnitudes-of cs = tabulate (λ i. abs-s (at cs i)) 40
+unfoldable pub magnitudes_of : List ℤ → List ℤ
+magnitudes_of cs = tabulate (λ i. abs_s (at cs i)) 40
 
 -- ---- 01: 'Per track the four smallest magnitudes, the lower place first on a tie, lose the right to start'. A place that lost it holds -1 ('dn2')
 -- the smallest so far and its place: a place that is left and holds less takes over
@@ -37,23 +37,23 @@ unfoldable pub without : List ℤ → ℕ → Left
 without left p = record { words = set left p (negsuc 0); last = p }
 
 -- a track loses one
-unfoldable pub drop-one : Left → ℕ → Left
-drop-one d track = without d.words (least d.words d.last track 8).place
+unfoldable pub drop_one : Left → ℕ → Left
+drop_one d track = without d.words (least d.words d.last track 8).place
 
 -- the first n drops, four in a track, one track after the other; '(place 0 at the very first)'
 unfoldable pub dropped : List ℤ → ℕ → Left
 dropped mags zero = record { words = mags; last = 0 }
-dropped mags (suc n) = drop-one (dropped mags n) (n / 4)
+dropped mags (suc n) = drop_one (dropped mags n) (n / 4)
 
 -- set_sign: all twenty
-unfoldable pub set-sign : List ℤ → List ℤ
-set-sign mags = (dropped mags 20).words
+unfoldable pub set_sign : List ℤ → List ℤ
+set_sign mags = (dropped mags 20).words
 
 -- a pulse may start at a place that was not dropped
-abbrev pub may-start : List ℤ → ℕ → Bool
-may-start left i = le_z (pos 0) (at left i)
+abbrev pub may_start : List ℤ → ℕ → Bool
+may_start left i = le_z (pos 0) (at left i)
 
 -- how many of the first n places of a track may start
-unfoldable pub starts-in : List ℤ → ℕ → ℕ → ℕ
-starts-in left track zero = 0
-starts-in left track (suc n) = starts-in left track n + cond (may-start left (track + 5 * n)) 1 0
+unfoldable pub starts_in : List ℤ → ℕ → ℕ → ℕ
+starts_in left track zero = 0
+starts_in left track (suc n) = starts_in left track n + cond (may_start left (track + 5 * n)) 1 0

@@ -2,10 +2,10 @@
 #![tactic(auto)]
 
 ghost use Rattle.std.specs.Prelude.{◌≡◌, cond, ◌-◌, ◌<◌};
-ghost use Rattle.fixed.specs.Operators.{abs-s};
+ghost use Rattle.fixed.specs.Operators.{abs_s};
 ghost use Rattle.fixed.specs.Lists.{at, tabulate};
-ghost use Rattle.codebook_target.specs.Targets.{correlated, greater, greatest, total, cor-h-x};
-ghost use Rattle.codebook_target.specs.Starts.{sign_of, signs_of, magnitudes-of, lesser, least, set-sign};
+ghost use Rattle.codebook_target.specs.Targets.{correlated, greater, greatest, total, cor_h_x};
+ghost use Rattle.codebook_target.specs.Starts.{sign_of, signs_of, magnitudes_of, lesser, least, set_sign};
 
 const SUBFRAME_SAMPLES: usize = 40;
 
@@ -25,7 +25,7 @@ const INITIAL_MAXIMUM_SUM: i32 = 5;
 // ---- TS 26.073 cor_h_x.
 
 pub fn target_correlation(target: &[i16; 40], impulse: &[i16; 40]) -> [i16; 40]
-    ensures { result ≡ cor-h-x target.now impulse.now }
+    ensures { result ≡ cor_h_x target.now impulse.now }
 {
     let raw = raw_correlations(target, impulse);
     let shift = fixed::sub16(fixed::normalize(total(&raw)), 1);
@@ -98,14 +98,14 @@ pub fn signs(correlation: &[i16; 40]) -> [i16; 40]
 }
 
 pub fn magnitudes(correlation: &[i16; 40]) -> [i16; 40]
-    ensures { result ≡ magnitudes-of correlation.now }
+    ensures { result ≡ magnitudes_of correlation.now }
 {
     parts(correlation, false)
 }
 
 // The sign of each word, or its magnitude.
 fn parts(correlation: &[i16; 40], sign: bool) -> [i16; 40]
-    ensures { result ≡ tabulate (λ i. cond sign (sign_of (at correlation.now i)) (abs-s (at correlation.now i))) 40 }
+    ensures { result ≡ tabulate (λ i. cond sign (sign_of (at correlation.now i)) (abs_s (at correlation.now i))) 40 }
 {
     let mut words = [0i16; 40];
     for i in 0..SUBFRAME_SAMPLES {
@@ -115,7 +115,7 @@ fn parts(correlation: &[i16; 40], sign: bool) -> [i16; 40]
 }
 
 fn part(v: i16, sign: bool) -> i16
-    ensures { result ≡ cond sign (sign_of v) (abs-s v) }
+    ensures { result ≡ cond sign (sign_of v) (abs_s v) }
 {
     if sign {
         return sign_of(v);
@@ -125,7 +125,7 @@ fn part(v: i16, sign: bool) -> i16
 
 // The magnitudes, with -1 at every place that may not start.
 pub fn starts(magnitudes: &[i16; 40]) -> [i16; 40]
-    ensures { result ≡ set-sign magnitudes.now }
+    ensures { result ≡ set_sign magnitudes.now }
 {
     let mut left = *magnitudes;
     let mut place = 0;

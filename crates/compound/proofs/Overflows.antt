@@ -9,11 +9,11 @@ use lib.Pow.{pow_pos}
 use lib.Signed.{mag, lt_z}
 use borrow.Author.Tests.{ltb-true, ltb-false, le-leb, lt-leb}
 use Rattle.fixed.specs.Operators.{beyond}
-use Rattle.fixed.proofs.Signs.{mag-neg}
+use Rattle.fixed.proofs.Signs.{mag_neg}
 
-or-false : (b : Bool) → b || false ≡ b
-or-false true = refl
-or-false false = refl
+or_false : (b : Bool) → b || false ≡ b
+or_false true = refl
+or_false false = refl
 
 -- a test of one less is a test of at least
 past : (m n : ℕ) → zero < m → ltb (m - 1) n ≡ leb m n
@@ -24,15 +24,15 @@ past m n h = go (ltb (m - 1) n) refl
     go false q = sym (lt-leb m n (omega (arith, ltb-false (m - 1) n q)))
 
 -- for every width
-pub past-ends : (k : ℕ) (z : ℤ) → lt_z (pos (2 ^ k - 1)) z || lt_z z (negsuc (2 ^ k - 1)) ≡ beyond k z
-past-ends k (pos n) = or-false _ ∙ past (2 ^ k) n (pow_pos k)
-past-ends k (negsuc n) = past (2 ^ k) n (pow_pos k)
+pub past_ends : (k : ℕ) (z : ℤ) → lt_z (pos (2 ^ k - 1)) z || lt_z z (negsuc (2 ^ k - 1)) ≡ beyond k z
+past_ends k (pos n) = or_false _ ∙ past (2 ^ k) n (pow_pos k)
+past_ends k (negsuc n) = past (2 ^ k) n (pow_pos k)
 
 -- twice a product of two words
-pub past-product : (z : ℤ) → nat_abs z ≤ 2 ^ 30 → lt_z (pos 1073741823) z ≡ beyond 31 (pos 2 *ℤ z)
-past-product (pos n) h = go (ltb 1073741823 n) refl
+pub past_product : (z : ℤ) → nat_abs z ≤ 2 ^ 30 → lt_z (pos 1073741823) z ≡ beyond 31 (pos 2 *ℤ z)
+past_product (pos n) h = go (ltb 1073741823 n) refl
   where
     go : (t : Bool) → ltb 1073741823 n ≡ t → t ≡ leb (2 ^ 31) (2 * n)
     go true q = sym (le-leb (2 ^ 31) (2 * n) (omega (arith, ltb-true 1073741823 n q)))
     go false q = sym (lt-leb (2 ^ 31) (2 * n) (omega (arith, ltb-false 1073741823 n q)))
-past-product (negsuc n) h = sym (lt-leb (2 ^ 31) (mag (pos 2 *ℤ negsuc n)) (omega (arith, mag-neg (2 * suc n))))
+past_product (negsuc n) h = sym (lt-leb (2 ^ 31) (mag (pos 2 *ℤ negsuc n)) (omega (arith, mag_neg (2 * suc n))))

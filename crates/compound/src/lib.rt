@@ -2,7 +2,7 @@
 #![tactic(auto)]
 
 ghost use Rattle.std.specs.Prelude.{◌≡◌, min, pos};
-ghost use Rattle.fixed.specs.Operators.{extract-h, low_half, L-Extract, Mpy-32, Mpy-32-16, L-shl, L-mult, L-mac-flagged, div-s};
+ghost use Rattle.fixed.specs.Operators.{extract_h, low_half, L_Extract, Mpy_32, Mpy_32_16, L_shl, L_mult, L_mac_flagged, div_s};
 ghost use Rattle.fixed.specs.Line.{line};
 
 use fixed::{Flagged, Halves};
@@ -17,7 +17,7 @@ fn low(v: i32) -> i16
 }
 
 pub fn split(v: i32) -> Halves
-    ensures { result ≡ L-Extract v }
+    ensures { result ≡ L_Extract v }
 {
     Halves {
         high: fixed::high(v),
@@ -26,7 +26,7 @@ pub fn split(v: i32) -> Halves
 }
 
 pub fn multiply(a: i32, b: i32) -> i32
-    ensures { result ≡ Mpy-32 a b }
+    ensures { result ≡ Mpy_32 a b }
 {
     let ah = fixed::high(a);
     let bh = fixed::high(b);
@@ -35,7 +35,7 @@ pub fn multiply(a: i32, b: i32) -> i32
 }
 
 pub fn multiply_word(a: i32, n: i16) -> i32
-    ensures { result ≡ Mpy-32-16 a n }
+    ensures { result ≡ Mpy_32_16 a n }
 {
     fixed::mac(
         fixed::product(fixed::high(a), n),
@@ -48,13 +48,13 @@ pub fn multiply_word(a: i32, n: i16) -> i32
 
 // The high word of the doubled product shifted to the left by n places, n held at 15: one product, one shift, one clip.
 pub fn product_high(a: i16, b: i16, n: u32) -> i16
-    ensures { result ≡ extract-h (L-shl (L-mult a b) (pos (min n 15))) }
+    ensures { result ≡ extract_h (L_shl (L_mult a b) (pos (min n 15))) }
 {
     fixed::clip16((a as i32 * b as i32) >> (15 - fixed::at_most(n, 15)))
 }
 
 pub fn mac_flagged(sum: i32, a: i16, b: i16) -> Flagged
-    ensures { result ≡ L-mac-flagged sum a b }
+    ensures { result ≡ L_mac_flagged sum a b }
 {
     let wide = sum as i64 + fixed::product(a, b) as i64;
     Flagged {
@@ -67,7 +67,7 @@ pub fn mac_flagged(sum: i32, a: i16, b: i16) -> Flagged
 
 // The division of `pitch_gain`: a / b in Q15.
 pub fn divide(a: i16, b: i16) -> i16
-    ensures { result ≡ div-s a b }
+    ensures { result ≡ div_s a b }
 {
     if a < 0 {
         return 0;

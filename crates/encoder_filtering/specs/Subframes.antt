@@ -1,7 +1,7 @@
 -- The two entries of target filtering, behind 01's checks.
 use Rattle.std.specs.Prelude.{List, [], ◌∷◌, ℤ}
 use Rattle.refusal.specs.Refused.{Told, values, turned_down}
-use Rattle.refusal.specs.Checks.{Check, Outcome, unless-refused, length-is}
+use Rattle.refusal.specs.Checks.{Check, Outcome, unless_refused, length_is}
 use Rattle.encoder_filtering.specs.declared.Filtering.{Filtering}
 use Rattle.encoder_filtering.specs.declared.Filtering.TheVariants.{Written, Refused}
 use Rattle.filters.specs.Filters.{Residu}
@@ -16,17 +16,17 @@ told (Refused r) = turned_down r
 -- `residual`: the answer, and the lent list after it
 unfoldable pub residual : List ℤ → List ℤ → List ℤ → Outcome (Unit {0}) (List ℤ)
 residual cs xs out =
-    unless-refused (length-is 11 cs ∷ length-is 50 xs ∷ length-is 40 out ∷ []) out (record { answer = values tt; after = Residu cs xs })
+    unless_refused (length_is 11 cs ∷ length_is 50 xs ∷ length_is 40 out ∷ []) out (record { answer = values tt; after = Residu cs xs })
 
 -- 01, number 1, 'in the order of the Rust's arguments, a list to be written last': the lists that are read
-abbrev pub read-checks : List ℤ → List ℤ → List ℤ → List ℤ → List ℤ → List Check → List Check
-read-checks speech cs quantized error-past weighting-past rest =
-    length-is 50 speech ∷ length-is 11 cs ∷ length-is 11 quantized ∷ length-is 10 error-past ∷ length-is 10 weighting-past ∷ rest
+abbrev pub read_checks : List ℤ → List ℤ → List ℤ → List ℤ → List ℤ → List Check → List Check
+read_checks speech cs quantized error_past weighting_past rest =
+    length_is 50 speech ∷ length_is 11 cs ∷ length_is 11 quantized ∷ length_is 10 error_past ∷ length_is 10 weighting_past ∷ rest
 
 -- and those that are written
-abbrev pub written-checks : PreparedSubframe → List Check
-written-checks out =
-    length-is 40 out.residual_q0 ∷ length-is 40 out.impulse_q12 ∷ length-is 40 out.target_q0 ∷ length-is 40 out.error_q0 ∷ []
+abbrev pub written_checks : PreparedSubframe → List Check
+written_checks out =
+    length_is 40 out.residual_q0 ∷ length_is 40 out.impulse_q12 ∷ length_is 40 out.target_q0 ∷ length_is 40 out.error_q0 ∷ []
 
 -- the four lists that are lent
 abbrev pub lists : List ℤ → List ℤ → List ℤ → List ℤ → PreparedSubframe
@@ -34,6 +34,6 @@ lists residual impulse target error = record { residual_q0 = residual; impulse_q
 
 -- `prepare`: the answer, and these four after it
 unfoldable pub prepare : List ℤ → List ℤ → List ℤ → List ℤ → List ℤ → PreparedSubframe → Outcome (Unit {0}) PreparedSubframe
-prepare speech cs quantized error-past weighting-past out =
-    unless-refused (read-checks speech cs quantized error-past weighting-past (written-checks out)) out
-    (record { answer = values tt; after = subframePreProc speech cs quantized error-past weighting-past })
+prepare speech cs quantized error_past weighting_past out =
+    unless_refused (read_checks speech cs quantized error_past weighting_past (written_checks out)) out
+    (record { answer = values tt; after = subframePreProc speech cs quantized error_past weighting_past })

@@ -1,7 +1,7 @@
 -- TS 26.073 Inv_sqrt: normalise, halve where the exponent is even, take the table's entry, draw the straight line to the next, shift down.
 use Rattle.std.specs.Prelude.{cond, List, [], ◌∷◌, ℕ, ◌+◌, ◌/◌, ◌%◌, ◌^◌, eqb, ℤ, pos}
-use Rattle.fixed.specs.Operators.{normal, exponent, positive-or}
-use Rattle.fixed.specs.Line.{table-line}
+use Rattle.fixed.specs.Operators.{normal, exponent, positive_or}
+use Rattle.fixed.specs.Line.{table_line}
 
 -- 1 / sqrt ((16 + k) / 16) in Q15
 unfoldable pub inverses : List ℕ
@@ -13,12 +13,12 @@ halved m e = cond (eqb (e % 2) 0) (m / 2) m
 
 -- of a positive number, with any table
 unfoldable pub root_in : List ℕ → ℕ → ℕ
-root_in t n = table-line t 16 (halved (normal n) (exponent n)) / 2 ^ (exponent n / 2 + 1)
+root_in t n = table_line t 16 (halved (normal n) (exponent n)) / 2 ^ (exponent n / 2 + 1)
 
 -- Inv_sqrt with any table: 0x3fffffff for 0 and below
-unfoldable pub Inv-sqrt-in : List ℕ → ℤ → ℤ
-Inv-sqrt-in t v = positive-or (pos 1073741823) (λ n. pos (root_in t n)) v
+unfoldable pub Inv_sqrt_in : List ℕ → ℤ → ℤ
+Inv_sqrt_in t v = positive_or (pos 1073741823) (λ n. pos (root_in t n)) v
 
 -- Inv_sqrt
-unfoldable pub Inv-sqrt : ℤ → ℤ
-Inv-sqrt v = Inv-sqrt-in inverses v
+unfoldable pub Inv_sqrt : ℤ → ℤ
+Inv_sqrt v = Inv_sqrt_in inverses v

@@ -2,7 +2,7 @@
 #![tactic(auto)]
 
 ghost use Rattle.std.specs.Prelude.{◌≡◌, ◌<◌, ◌^◌, pos};
-ghost use Rattle.energy.specs.Root.{inverses, halved, root_in, Inv-sqrt-in, Inv-sqrt};
+ghost use Rattle.energy.specs.Root.{inverses, halved, root_in, Inv_sqrt_in, Inv_sqrt};
 
 const INVERSE_TABLE: [u16; 49] = [
     32767, 31790, 30894, 30070, 29309, 28602, 27945, 27330, 26755, 26214, 25705, 25225, 24770,
@@ -12,7 +12,7 @@ const INVERSE_TABLE: [u16; 49] = [
 ];
 
 pub fn inverse_sqrt(value: i32) -> i32
-    ensures { result ≡ Inv-sqrt value }
+    ensures { result ≡ Inv_sqrt value }
 {
     let table = INVERSE_TABLE;
     inverse_sqrt_in(value, &table)
@@ -26,7 +26,7 @@ pub fn inverse_table() -> [u16; 49]
 
 // The same with the table lent, for a caller that takes many roots: a `const` is written anew at each place that reads it.
 pub fn inverse_sqrt_in(value: i32, table: &[u16; 49]) -> i32
-    ensures { result ≡ Inv-sqrt-in table.now value }
+    ensures { result ≡ Inv_sqrt_in table.now value }
 {
     if value < 1 {
         return 0x3fff_ffff;

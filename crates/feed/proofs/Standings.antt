@@ -10,12 +10,12 @@ use lib.IntN.{pos}
 use lib.ListN.{length, get_or, drop, length-drop}
 use lib.Seq.{length-take-le}
 use Rattle.refusal.specs.Refused.{values, refused}
-use Rattle.feed.specs.Records.{lengths, body-length, whole, header, body}
+use Rattle.feed.specs.Records.{lengths, body_length, whole, header, body}
 
 -- a kind, and the place of the next record
 pub record Whole (feed : List ℕ) (at kind next : ℕ) : Type 0 where
   pub known : kind ≤ 6
-  pub after : next ≡ at + 1 + body-length kind
+  pub after : next ≡ at + 1 + body_length kind
   pub inside : next ≤ length feed
 
 apart : {X : Type 0} → ◌≡◌ {A = ℕ} 0 1 → X
@@ -29,18 +29,18 @@ module _ (feed : List ℕ) (at kind next : ℕ) where
       k : ℕ
       k = get_or feed at 0
 
-      fits : (t : Bool) → leb (body-length k) (length feed - (at + 1)) ≡ t → ltb at (length feed) ≡ true → leb k 6 ≡ true → Whole feed at kind next
+      fits : (t : Bool) → leb (body_length k) (length feed - (at + 1)) ≡ t → ltb at (length feed) ≡ true → leb k 6 ≡ true → Whole feed at kind next
       fits true q p r =
-          let f : values (whole k (at + 1 + body-length k)) ≡ values (whole kind next) = rw (p, r, q) at e in
+          let f : values (whole k (at + 1 + body_length k)) ≡ values (whole kind next) = rw (p, r, q) at e in
           let a : k ≡ kind = cc in
-          let b : at + 1 + body-length k ≡ next = cc in
-          let g : body-length k ≤ length feed - (at + 1) = leb-true (body-length k) (length feed - (at + 1)) q in
+          let b : at + 1 + body_length k ≡ next = cc in
+          let g : body_length k ≤ length feed - (at + 1) = leb-true (body_length k) (length feed - (at + 1)) q in
           let h : at < length feed = ltb-true at (length feed) p in
           record { known = omega (arith, leb-true k 6 r); after = rw (← a) (omega arith); inside = omega arith }
       fits false q p r = apart (let f = rw (p, r, q) at e in cc)
 
       known : (t : Bool) → leb k 6 ≡ t → ltb at (length feed) ≡ true → Whole feed at kind next
-      known true q p = fits (leb (body-length k) (length feed - (at + 1))) refl p q
+      known true q p = fits (leb (body_length k) (length feed - (at + 1))) refl p q
       known false q p = apart (let f = rw (p, q) at e in cc)
 
       there : (t : Bool) → ltb at (length feed) ≡ t → Whole feed at kind next
@@ -48,14 +48,14 @@ module _ (feed : List ℕ) (at kind next : ℕ) where
       there false q = apart (let f = rw q at e in cc)
 
   -- its body has the length that the kind fixes
-  pub body_has : header feed at ≡ values (whole kind next) → length (body feed at) ≡ body-length kind
+  pub body_has : header feed at ≡ values (whole kind next) → length (body feed at) ≡ body_length kind
   unfolding body
   body_has e =
       let w = whole_is e in
-      rw e (length-take-le (body-length kind) (drop (at + 1) feed) (simp length-drop (omega arith)))
+      rw e (length-take-le (body_length kind) (drop (at + 1) feed) (simp length-drop (omega arith)))
 
 -- 01, number 10: a kind 1 to 6 as the very last byte has none of its body's bytes
-has_body : (kind : ℕ) → 1 ≤ kind → kind ≤ 6 → 1 ≤ body-length kind
+has_body : (kind : ℕ) → 1 ≤ kind → kind ≤ 6 → 1 ≤ body_length kind
 unfolding lengths
 has_body zero h l = absurd (omega arith)
 has_body (suc zero) h l = omega arith
@@ -66,9 +66,9 @@ has_body (suc (suc (suc (suc (suc zero))))) h l = omega arith
 has_body (suc (suc (suc (suc (suc (suc zero)))))) h l = omega arith
 has_body (suc (suc (suc (suc (suc (suc (suc n))))))) h l = absurd (omega arith)
 
-pub kind-alone : (feed : List ℕ) (at : ℕ) → at + 1 ≡ length feed → 1 ≤ get_or feed at 0 → get_or feed at 0 ≤ 6 → header feed at ≡ refused 10 (pos 0)
+pub kind_alone : (feed : List ℕ) (at : ℕ) → at + 1 ≡ length feed → 1 ≤ get_or feed at 0 → get_or feed at 0 ≤ 6 → header feed at ≡ refused 10 (pos 0)
 unfolding header
-kind-alone feed at e h l =
+kind_alone feed at e h l =
     let none : length feed - (at + 1) ≡ 0 = omega arith in
-    let some : 0 < body-length (get_or feed at 0) = has_body (get_or feed at 0) h l in
-    rw (lt-ltb at (length feed) (omega arith), le-leb (get_or feed at 0) 6 l, none, lt-leb (body-length (get_or feed at 0)) 0 some)
+    let some : 0 < body_length (get_or feed at 0) = has_body (get_or feed at 0) h l in
+    rw (lt-ltb at (length feed) (omega arith), le-leb (get_or feed at 0) 6 l, none, lt-leb (body_length (get_or feed at 0)) 0 some)

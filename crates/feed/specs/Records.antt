@@ -10,20 +10,20 @@ unfoldable pub lengths : List ℕ
 lengths = 0 ∷ 160 ∷ 551 ∷ 163 ∷ 245 ∷ 184 ∷ 2 ∷ []
 
 -- the length that a kind fixes
-abbrev pub body-length : ℕ → ℕ
-body-length kind = get_or lengths kind 0
+abbrev pub body_length : ℕ → ℕ
+body_length kind = get_or lengths kind 0
 
 -- number 9: a kind is at most 6
-abbrev pub known-kind : ℕ → Check
-known-kind kind = record { passes = leb kind 6; number = 9; detail = pos kind }
+abbrev pub known_kind : ℕ → Check
+known_kind kind = record { passes = leb kind 6; number = 9; detail = pos kind }
 
 -- number 10: there are as many body bytes as the kind needs
-abbrev pub whole-body : ℕ → ℕ → Check
-whole-body needed present = record { passes = leb needed present; number = 10; detail = pos present }
+abbrev pub whole_body : ℕ → ℕ → Check
+whole_body needed present = record { passes = leb needed present; number = 10; detail = pos present }
 
 -- 01: 'After refusals 9 and 10 it stops', and after no other: behind these two no record can be found
-abbrev pub ends-feed : ℕ → Bool
-ends-feed number = eqb number 9 || eqb number 10
+abbrev pub ends_feed : ℕ → Bool
+ends_feed number = eqb number 9 || eqb number 10
 
 -- what stands at a place: no record, since the feed ends there, or a whole one of a kind, and the place of the next
 pub data Standing : Type 0 where
@@ -31,15 +31,15 @@ pub data Standing : Type 0 where
   whole : ℕ → ℕ → Standing
 
 -- an answer as 01 gives it
-abbrev pub told-header : Header → Told Standing
-told-header End = values nothing
-told-header (Record kind next) = values (whole kind next)
-told-header (Refused r) = turned_down r
+abbrev pub told_header : Header → Told Standing
+told_header End = values nothing
+told_header (Record kind next) = values (whole kind next)
+told_header (Refused r) = turned_down r
 
 -- a record of a kind at a place where the feed has not ended
 abbrev pub record_of : List ℕ → ℕ → ℕ → Told Standing
 record_of feed at kind =
-    checked (known-kind kind ∷ whole-body (body-length kind) (length feed - (at + 1)) ∷ []) refused (values (whole kind (at + 1 + body-length kind)))
+    checked (known_kind kind ∷ whole_body (body_length kind) (length feed - (at + 1)) ∷ []) refused (values (whole kind (at + 1 + body_length kind)))
 
 -- `header_at`: the kind is the byte at the place
 unfoldable pub header : List ℕ → ℕ → Told Standing
@@ -48,7 +48,7 @@ header feed at = cond (ltb at (length feed)) (record_of feed at (get_or feed at 
 -- the body of what stands at a place: the bytes behind its kind
 abbrev pub body_of : List ℕ → ℕ → Told Standing → List ℕ
 body_of feed at (values nothing) = []
-body_of feed at (values (whole kind next)) = take (body-length kind) (drop (at + 1) feed)
+body_of feed at (values (whole kind next)) = take (body_length kind) (drop (at + 1) feed)
 body_of feed at (refused n d) = []
 
 -- `body_at`; 'The body is handed back as that part of the caller's feed'

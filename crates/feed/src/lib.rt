@@ -2,10 +2,10 @@
 #![tactic(auto)]
 
 ghost use Rattle.std.specs.Prelude.{◌≡◌, ◌+◌, ◌*◌, ◌≤◌, pos, length};
-ghost use Rattle.fixed.specs.Operators.{extract-l, remainder};
+ghost use Rattle.fixed.specs.Operators.{extract_l, remainder};
 ghost use Rattle.fixed.specs.Lists.{at, tabulate};
-ghost use Rattle.feed.specs.Records.{told-header, body-length, header, body, ends-feed};
-ghost use Rattle.feed.specs.Words.{words, words-into, swapped};
+ghost use Rattle.feed.specs.Records.{told_header, body_length, header, body, ends_feed};
+ghost use Rattle.feed.specs.Words.{words, words_into, swapped};
 
 use refusal::Refusal;
 
@@ -21,7 +21,7 @@ pub enum Header {
 }
 
 pub fn header_at(feed: &[u8], at: usize) -> Header
-    ensures { told-header result ≡ header feed.now at }
+    ensures { told_header result ≡ header feed.now at }
 {
     if feed.len() <= at {
         return Header::End;
@@ -45,7 +45,7 @@ pub fn header_at(feed: &[u8], at: usize) -> Header
 // Reset, half frame, pitch, pulses, gain, filtering, lag reading.
 fn body_length(kind: u8) -> usize
     requires { kind ≤ 6 }
-    ensures { result ≡ body-length kind }
+    ensures { result ≡ body_length kind }
 {
     match kind {
         0 => 0,
@@ -71,14 +71,14 @@ pub fn body_at(feed: &[u8], at: usize) -> &[u8]
 
 // Whether a refusal of this number ends the feed. Behind every other the next record follows.
 pub fn ends_feed(number: u8) -> bool
-    ensures { result ≡ ends-feed number }
+    ensures { result ≡ ends_feed number }
 {
     number == 9 || number == 10
 }
 
 // The words of a body from a place on, as many as the list takes. Where the body has fewer, the list stays as it was.
 pub fn read_words(body: &[u8], from: usize, list: &mut [i16])
-    ensures { list.new ≡ words-into body.now from list.old }
+    ensures { list.new ≡ words_into body.now from list.old }
 {
     if body.len() < from {
         return;
@@ -101,7 +101,7 @@ fn copy_low_first(body: &[u8], from: usize, list: &mut [i16])
 }
 
 fn low_first(first: u8, second: u8) -> i16
-    ensures { swapped result ≡ extract-l (pos (first * 256 + second)) }
+    ensures { swapped result ≡ extract_l (pos (first * 256 + second)) }
 {
     fixed::word(second, first)
 }

@@ -2,7 +2,7 @@
 #![tactic(auto)]
 
 ghost use Rattle.std.specs.Prelude.{◌≡◌, ◌+◌, ◌<◌, ◌≤◌, not, length, if◌then◌else◌};
-ghost use Rattle.feed.specs.Records.{ends-feed};
+ghost use Rattle.feed.specs.Records.{ends_feed};
 ghost use Rattle.feed_lines.specs.Endings.{Stops};
 
 use feed::Header;
@@ -325,7 +325,7 @@ fn record<W: Write>(
 
 // The state behind a record. 'After refusals 9 and 10 it stops', at that record.
 fn advanced(state: State, searcher: Search, reader: Reader, refusal: u8, end: usize) -> State
-    ensures { (result.follows ≡ not (ends-feed refusal)) × (result.at ≡ (if ends-feed refusal then state.at else end)) }
+    ensures { (result.follows ≡ not (ends_feed refusal)) × (result.at ≡ (if ends_feed refusal then state.at else end)) }
 {
     let ends = feed::ends_feed(refusal);
     let mut next = state;

@@ -4,14 +4,14 @@ use mathlib.Core.List.{List}
 use lib.IntN.{ℤ, pos}
 use lib.ListN.{length}
 use borrow.Author.Tests.{eq-eqb}
-use Rattle.fixed.proofs.Lists.{length-tabulate}
-use Rattle.filters.specs.Filters.{residual-at, Residu, filtered}
+use Rattle.fixed.proofs.Lists.{length_tabulate}
+use Rattle.filters.specs.Filters.{residual_at, Residu, filtered}
 
-pub residu-length : (cs xs : List ℤ) → length (Residu cs xs) ≡ 40
+pub residu_length : (cs xs : List ℤ) → length (Residu cs xs) ≡ 40
 unfolding Residu
-residu-length cs xs = length-tabulate (residual-at cs xs) (pos 0) 40
+residu_length cs xs = length_tabulate (residual_at cs xs) (pos 0) 40
 
 -- lists as long as the filter takes them
-pub filtered-whole : (cs xs : List ℤ) → length cs ≡ 11 → length xs ≡ 50 → filtered cs xs ≡ Residu cs xs
+pub filtered_whole : (cs xs : List ℤ) → length cs ≡ 11 → length xs ≡ 50 → filtered cs xs ≡ Residu cs xs
 unfolding filtered
-filtered-whole cs xs e f = rw (eq-eqb (length cs) 11 e, eq-eqb (length xs) 50 f)
+filtered_whole cs xs e f = rw (eq-eqb (length cs) 11 e, eq-eqb (length xs) 50 f)

@@ -3,7 +3,7 @@
 
 ghost use Rattle.std.specs.Prelude.{◌≡◌, length};
 ghost use Rattle.fixed.specs.Lists.{tabulate};
-ghost use Rattle.filters.specs.Filters.{Weight-Ai, taps-to, filtered};
+ghost use Rattle.filters.specs.Filters.{Weight_Ai, taps_to, filtered};
 
 const SUBFRAME_SAMPLES: usize = 40;
 
@@ -17,7 +17,7 @@ const RESIDUAL_SHIFT: i16 = 3;
 
 // TS 26.073 Weight_Ai.
 pub fn weight(coefficients: &[i16; 11], factors: &[i16; 10]) -> [i16; 11]
-    ensures { result ≡ Weight-Ai coefficients.now factors.now }
+    ensures { result ≡ Weight_Ai coefficients.now factors.now }
 {
     let mut weighted = [0i16; 11];
     weighted[0] = coefficients[0];
@@ -48,7 +48,7 @@ pub fn filtered(coefficients: &[i16], samples: &[i16]) -> [i16; 40]
 // Coefficient by coefficient: the 40 sums grow side by side, each in its own order.
 fn tap_sums(coefficients: &[i16], samples: &[i16]) -> [i32; 40]
     requires { (length coefficients.now ≡ 11) × (length samples.now ≡ 50) }
-    ensures { result ≡ tabulate (λ i. taps-to coefficients.now samples.now i 11) 40 }
+    ensures { result ≡ tabulate (λ i. taps_to coefficients.now samples.now i 11) 40 }
 {
     let mut sums = [0i32; 40];
     let mut tap = 0;

@@ -14,17 +14,17 @@ use mir.Val.{SFits, hbits, to_z, of_z}
 use mir.Facts.{to_z-of_z, sfits_widen}
 use borrow.Author.Rules.{sfits_of}
 
-pub mag-abs : (z : ℤ) → mag z ≤ nat_abs z
-mag-abs (pos n) = le_refl n
-mag-abs (negsuc n) = omega arith
+pub mag_abs : (z : ℤ) → mag z ≤ nat_abs z
+mag_abs (pos n) = le_refl n
+mag_abs (negsuc n) = omega arith
 
 -- what holds of both arms of a test holds of what it picks
 pub either : {A : Type 0} (P : A → Type 0) (c : Bool) (x y : A) → P x → P y → P (cond c x y)
 either P true x y h g = h
 either P false x y h g = g
 
-abs-sub-suc : (a b : ℕ) → nat_abs (sub_ℕ a (suc b)) ≤ a + suc b
-abs-sub-suc a b =
+abs_sub_suc : (a b : ℕ) → nat_abs (sub_ℕ a (suc b)) ≤ a + suc b
+abs_sub_suc a b =
     either (λ (z : ℤ). nat_abs z ≤ a + suc b) (ltb a (suc b)) (negsuc (suc b - suc a)) (pos (a - suc b)) (omega arith) (omega arith)
 
 pub abs_neg : (z : ℤ) → nat_abs (neg_ℤ z) ≡ nat_abs z
@@ -32,24 +32,24 @@ abs_neg (pos zero) = refl
 abs_neg (pos (suc n)) = refl
 abs_neg (negsuc n) = refl
 
-pub abs-add : (a b : ℤ) → nat_abs (a +ℤ b) ≤ nat_abs a + nat_abs b
-abs-add (pos a) (pos b) = le_refl (a + b)
-abs-add (pos a) (negsuc b) = abs-sub-suc a b
-abs-add (negsuc a) (pos b) = omega (arith, abs-sub-suc b a)
-abs-add (negsuc a) (negsuc b) = omega arith
+pub abs_add : (a b : ℤ) → nat_abs (a +ℤ b) ≤ nat_abs a + nat_abs b
+abs_add (pos a) (pos b) = le_refl (a + b)
+abs_add (pos a) (negsuc b) = abs_sub_suc a b
+abs_add (negsuc a) (pos b) = omega (arith, abs_sub_suc b a)
+abs_add (negsuc a) (negsuc b) = omega arith
 
-pub abs-sub : (a b : ℤ) → nat_abs (a -ℤ b) ≤ nat_abs a + nat_abs b
-abs-sub a b = rw (← (abs_neg b)) (abs-add a (neg_ℤ b))
+pub abs_sub : (a b : ℤ) → nat_abs (a -ℤ b) ≤ nat_abs a + nat_abs b
+abs_sub a b = rw (← (abs_neg b)) (abs_add a (neg_ℤ b))
 
-pub abs-mul : (a b : ℤ) → nat_abs (a *ℤ b) ≡ nat_abs a * nat_abs b
-abs-mul (pos a) (pos b) = refl
-abs-mul (pos a) (negsuc b) = abs_neg (pos (a * suc b))
-abs-mul (negsuc a) (pos b) = abs_neg (pos (suc a * b))
-abs-mul (negsuc a) (negsuc b) = refl
+pub abs_mul : (a b : ℤ) → nat_abs (a *ℤ b) ≡ nat_abs a * nat_abs b
+abs_mul (pos a) (pos b) = refl
+abs_mul (pos a) (negsuc b) = abs_neg (pos (a * suc b))
+abs_mul (negsuc a) (pos b) = abs_neg (pos (suc a * b))
+abs_mul (negsuc a) (negsuc b) = refl
 
-pub abs-shr : (z : ℤ) (m : ℕ) → nat_abs (shr_z z m) ≤ nat_abs z
-abs-shr (pos a) m = div-le_self a m
-abs-shr (negsuc a) m = omega (arith, div-le_self a m)
+pub abs_shr : (z : ℤ) (m : ℕ) → nat_abs (shr_z z m) ≤ nat_abs z
+abs_shr (pos a) m = div-le_self a m
+abs_shr (negsuc a) m = omega (arith, div-le_self a m)
 
 -- and by k places it is at most the quotient of a bound, and 1
 pub shift_le : (z : ℤ) (k b : ℕ) → nat_abs z ≤ b → nat_abs (shr_z z (2 ^ k)) ≤ b / 2 ^ k + 1
@@ -57,64 +57,64 @@ shift_le (pos a) k b h = omega (arith, shr_mono k h)
 shift_le (negsuc a) k b h = omega (arith, shr_mono {a = a} {b = b} k (omega arith))
 
 -- a number that fits, from a bound, and back
-pub fits-abs : (w : Width) (z : ℤ) → nat_abs z < 2 ^ hbits w → SFits w z
-fits-abs w z h = record { sfits = lt_of_le_of_lt (mag-abs z) h }
+pub fits_abs : (w : Width) (z : ℤ) → nat_abs z < 2 ^ hbits w → SFits w z
+fits_abs w z h = record { sfits = lt_of_le_of_lt (mag_abs z) h }
 
-pub abs-fits : {w : Width} {z : ℤ} → SFits w z → nat_abs z ≤ 2 ^ hbits w
-abs-fits {w} {z} f = nat_abs-le z f.sfits
+pub abs_fits : {w : Width} {z : ℤ} → SFits w z → nat_abs z ≤ 2 ^ hbits w
+abs_fits {w} {z} f = nat_abs-le z f.sfits
 
 -- a sum, a difference and a product of numbers that fit a width fit a wider one; a shift to the right fits where its number did
 module _ (w v : Width) {a b : ℤ} (t : T (ltb (2 ^ hbits w + 2 ^ hbits w) (2 ^ hbits v))) (f : SFits w a) (g : SFits w b) where
   sum_fits : SFits v (a +ℤ b)
-  sum_fits = fits-abs v (a +ℤ b) (omega (arith, abs-add a b, abs-fits f, abs-fits g, ltb→lt (2 ^ hbits w + 2 ^ hbits w) (2 ^ hbits v) t))
+  sum_fits = fits_abs v (a +ℤ b) (omega (arith, abs_add a b, abs_fits f, abs_fits g, ltb→lt (2 ^ hbits w + 2 ^ hbits w) (2 ^ hbits v) t))
 
-  difference-fits : SFits v (a -ℤ b)
-  difference-fits = fits-abs v (a -ℤ b) (omega (arith, abs-sub a b, abs-fits f, abs-fits g, ltb→lt (2 ^ hbits w + 2 ^ hbits w) (2 ^ hbits v) t))
+  difference_fits : SFits v (a -ℤ b)
+  difference_fits = fits_abs v (a -ℤ b) (omega (arith, abs_sub a b, abs_fits f, abs_fits g, ltb→lt (2 ^ hbits w + 2 ^ hbits w) (2 ^ hbits v) t))
 
-pub product-fits : (w u v : Width) {a b : ℤ} → T (ltb (2 ^ hbits w * 2 ^ hbits u) (2 ^ hbits v)) → SFits w a → SFits u b → SFits v (a *ℤ b)
-product-fits w u v {a} {b} t f g =
-    fits-abs v (a *ℤ b) (rw (abs-mul a b) (lt_of_le_of_lt (mul-le-mul (abs-fits f) (abs-fits g)) (ltb→lt (2 ^ hbits w * 2 ^ hbits u) (2 ^ hbits v) t)))
+pub product_fits : (w u v : Width) {a b : ℤ} → T (ltb (2 ^ hbits w * 2 ^ hbits u) (2 ^ hbits v)) → SFits w a → SFits u b → SFits v (a *ℤ b)
+product_fits w u v {a} {b} t f g =
+    fits_abs v (a *ℤ b) (rw (abs_mul a b) (lt_of_le_of_lt (mul-le-mul (abs_fits f) (abs_fits g)) (ltb→lt (2 ^ hbits w * 2 ^ hbits u) (2 ^ hbits v) t)))
 
 pub shift_fits : {w : Width} {z : ℤ} (m : ℕ) → SFits w z → SFits w (shr_z z m)
 shift_fits {w} {z} m f = record { sfits = lt_of_le_of_lt (mag_shr z m) f.sfits }
 
 -- the upper bits of a number of j + k bits are a number of j bits
-shr-narrow : (j k : ℕ) (z : ℤ) → mag z < 2 ^ (j + k) → mag (shr_z z (2 ^ k)) < 2 ^ j
-shr-narrow j k (pos n) h = lib.Pow.shr_lt j k h
-shr-narrow j k (negsuc n) h = lib.Pow.shr_lt j k h
+shr_narrow : (j k : ℕ) (z : ℤ) → mag z < 2 ^ (j + k) → mag (shr_z z (2 ^ k)) < 2 ^ j
+shr_narrow j k (pos n) h = lib.Pow.shr_lt j k h
+shr_narrow j k (negsuc n) h = lib.Pow.shr_lt j k h
 
 pub high_fits : {z : ℤ} → SFits w32 z → SFits w16 (shr_z z 65536)
-high_fits {z} f = record { sfits = shr-narrow 15 16 z f.sfits }
+high_fits {z} f = record { sfits = shr_narrow 15 16 z f.sfits }
 
 -- a number of a known bound times a natural number
 pub scaled_fits : (w : Width) (z : ℤ) (n m : ℕ) → nat_abs z ≤ n → T (ltb (n * m) (2 ^ hbits w)) → SFits w (z *ℤ pos m)
 scaled_fits w z n m h t =
-    fits-abs w (z *ℤ pos m) (rw (abs-mul z (pos m)) (lt_of_le_of_lt (mul-le-mul h (le_refl m)) (ltb→lt (n * m) (2 ^ hbits w) t)))
+    fits_abs w (z *ℤ pos m) (rw (abs_mul z (pos m)) (lt_of_le_of_lt (mul-le-mul h (le_refl m)) (ltb→lt (n * m) (2 ^ hbits w) t)))
 
 -- at the widths in use
-pub fits-16-32 : {z : ℤ} → SFits w16 z → SFits w32 z
-fits-16-32 = sfits_widen tt
+pub fits_16_32 : {z : ℤ} → SFits w16 z → SFits w32 z
+fits_16_32 = sfits_widen tt
 
 pub fits_32_64 : {z : ℤ} → SFits w32 z → SFits w64 z
 fits_32_64 = sfits_widen tt
 
-pub sum-32 : {a b : ℤ} → SFits w16 a → SFits w16 b → SFits w32 (a +ℤ b)
-sum-32 = sum_fits w16 w32 tt
+pub sum_32 : {a b : ℤ} → SFits w16 a → SFits w16 b → SFits w32 (a +ℤ b)
+sum_32 = sum_fits w16 w32 tt
 
 pub sum_64 : {a b : ℤ} → SFits w32 a → SFits w32 b → SFits w64 (a +ℤ b)
 sum_64 = sum_fits w32 w64 tt
 
-pub difference-32 : {a b : ℤ} → SFits w16 a → SFits w16 b → SFits w32 (a -ℤ b)
-difference-32 = difference-fits w16 w32 tt
+pub difference_32 : {a b : ℤ} → SFits w16 a → SFits w16 b → SFits w32 (a -ℤ b)
+difference_32 = difference_fits w16 w32 tt
 
-pub difference-64 : {a b : ℤ} → SFits w32 a → SFits w32 b → SFits w64 (a -ℤ b)
-difference-64 = difference-fits w32 w64 tt
+pub difference_64 : {a b : ℤ} → SFits w32 a → SFits w32 b → SFits w64 (a -ℤ b)
+difference_64 = difference_fits w32 w64 tt
 
-pub product-32 : {a b : ℤ} → SFits w16 a → SFits w16 b → SFits w32 (a *ℤ b)
-product-32 = product-fits w16 w16 w32 tt
+pub product_32 : {a b : ℤ} → SFits w16 a → SFits w16 b → SFits w32 (a *ℤ b)
+product_32 = product_fits w16 w16 w32 tt
 
 -- what `search` is handed for a signed need
-pub ruleset signed = (lit<, to_z-of_z, sfits_of, fits-16-32, fits_32_64, sum-32, sum_64, difference-32, difference-64, product-32, shift_fits, high_fits)
+pub ruleset signed = (lit<, to_z-of_z, sfits_of, fits_16_32, fits_32_64, sum_32, sum_64, difference_32, difference_64, product_32, shift_fits, high_fits)
 
 -- a bound as the record that says so, and what a local reads that holds a result r of which an equation is known
 pub ok : (w : Width) (z : ℤ) → mag z < 2 ^ hbits w → SFits w z

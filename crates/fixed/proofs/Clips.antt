@@ -10,32 +10,32 @@ use lib.Signed.{mag, le_z, ◌≤ℤ◌}
 use Rattle.fixed.specs.Clip.{clip}
 
 -- in range: -2 ^ k to 2 ^ k - 1
-pub clip-fits : (k : ℕ) (z : ℤ) → mag (clip k z) < 2 ^ k
-clip-fits k (pos n) = omega (arith, pow_pos k)
-clip-fits k (negsuc n) = omega (arith, pow_pos k)
+pub clip_fits : (k : ℕ) (z : ℤ) → mag (clip k z) < 2 ^ k
+clip_fits k (pos n) = omega (arith, pow_pos k)
+clip_fits k (negsuc n) = omega (arith, pow_pos k)
 
 -- no farther from 0
-pub abs-clip : (k : ℕ) (z : ℤ) → nat_abs (clip k z) ≤ nat_abs z
-abs-clip k (pos n) = omega arith
-abs-clip k (negsuc n) = omega arith
+pub abs_clip : (k : ℕ) (z : ℤ) → nat_abs (clip k z) ≤ nat_abs z
+abs_clip k (pos n) = omega arith
+abs_clip k (negsuc n) = omega arith
 
 -- the identity inside the range
-pub clip-id : (k : ℕ) (z : ℤ) → mag z < 2 ^ k → clip k z ≡ z
-clip-id k (pos n) h = ap pos (omega arith)
-clip-id k (negsuc n) h = ap negsuc (omega arith)
+pub clip_id : (k : ℕ) (z : ℤ) → mag z < 2 ^ k → clip k z ≡ z
+clip_id k (pos n) h = ap pos (omega arith)
+clip_id k (negsuc n) h = ap negsuc (omega arith)
 
 -- idempotent
-pub clip-clip : (k : ℕ) (z : ℤ) → clip k (clip k z) ≡ clip k z
-clip-clip k z = clip-id k (clip k z) (clip-fits k z)
+pub clip_clip : (k : ℕ) (z : ℤ) → clip k (clip k z) ≡ clip k z
+clip_clip k z = clip_id k (clip k z) (clip_fits k z)
 
 -- after a wider clip: the narrow one alone
-pub clip-wider : (j k : ℕ) (z : ℤ) → j ≤ k → clip j (clip k z) ≡ clip j z
-clip-wider j k (pos n) h = ap pos (omega (arith, pow_mono h))
-clip-wider j k (negsuc n) h = ap negsuc (omega (arith, pow_mono h))
+pub clip_wider : (j k : ℕ) (z : ℤ) → j ≤ k → clip j (clip k z) ≡ clip j z
+clip_wider j k (pos n) h = ap pos (omega (arith, pow_mono h))
+clip_wider j k (negsuc n) h = ap negsuc (omega (arith, pow_mono h))
 
 -- monotone
-pub clip-mono : (k : ℕ) {a b : ℤ} → a ≤ℤ b → clip k a ≤ℤ clip k b
-clip-mono k {a} {b} h = record { le = go a b h.le }
+pub clip_mono : (k : ℕ) {a b : ℤ} → a ≤ℤ b → clip k a ≤ℤ clip k b
+clip_mono k {a} {b} h = record { le = go a b h.le }
   where
     go : (a b : ℤ) → T (le_z a b) → T (le_z (clip k a) (clip k b))
     go (pos a) (pos b) t = le→leb (min a (2 ^ k - 1)) (min b (2 ^ k - 1)) (omega (arith, leb→le a b t))

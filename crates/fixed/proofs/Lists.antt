@@ -10,27 +10,27 @@ use lib.ListN.{length, get_or, set, replicate, get_or-replicate, length-set}
 use lib.Seq.{ext_get_or, get_or-set_same, get_or-set_other}
 use borrow.Author.Count.{below_more}
 use borrow.Author.Tests.{eq-eqb, le-leb, lt-ltb, le-ltb, leb-true, ltb-true, ltb-false, eqb-true, eqb-false}
-use Rattle.fixed.specs.Lists.{tabulate-from, tabulate, copied, between}
+use Rattle.fixed.specs.Lists.{tabulate_from, tabulate, copied, between}
 
 module _ {A : Type 0} (f : ℕ → A) (d : A) where
-  length_from : (i n : ℕ) → length (tabulate-from i f n) ≡ n
-  unfolding tabulate-from
+  length_from : (i n : ℕ) → length (tabulate_from i f n) ≡ n
+  unfolding tabulate_from
   length_from i zero = refl
   length_from i (suc n) = ap suc (length_from (suc i) n)
 
-  at_from : (i n k : ℕ) → k < n → get_or (tabulate-from i f n) k d ≡ f (i + k)
-  unfolding tabulate-from
+  at_from : (i n k : ℕ) → k < n → get_or (tabulate_from i f n) k d ≡ f (i + k)
+  unfolding tabulate_from
   at_from i zero k h = absurd (omega arith)
   at_from i (suc n) zero h = ap f (omega arith)
   at_from i (suc n) (suc k) h = at_from (suc i) n k (omega arith) ∙ ap f (omega arith)
 
-  pub length-tabulate : (n : ℕ) → length (tabulate f n) ≡ n
+  pub length_tabulate : (n : ℕ) → length (tabulate f n) ≡ n
   unfolding tabulate
-  length-tabulate n = length_from 0 n
+  length_tabulate n = length_from 0 n
 
-  pub at-tabulate : (n k : ℕ) → k < n → get_or (tabulate f n) k d ≡ f k
+  pub at_tabulate : (n k : ℕ) → k < n → get_or (tabulate f n) k d ≡ f k
   unfolding tabulate
-  at-tabulate n k h = at_from 0 n k h ∙ ap f (omega arith)
+  at_tabulate n k h = at_from 0 n k h ∙ ap f (omega arith)
 
   -- the first i places of a list are those of f
   abbrev pub Filled : ℕ → List A → Type 0
@@ -42,9 +42,9 @@ module _ {A : Type 0} (f : ℕ → A) (d : A) where
       (λ k l. get_or-set_other xs i k v d (λ (q : k ≡ i). absurd (omega arith)) ∙ p k l)
       (get_or-set_same xs i v d h ∙ e)
 
-  pub filled-all : (n : ℕ) (xs : List A) → length xs ≡ n → Filled n xs → xs ≡ tabulate f n
-  filled-all n xs e p =
-      ext_get_or d xs (tabulate f n) (e ∙ sym (length-tabulate n)) (λ k l. p k (omega arith) ∙ sym (at-tabulate n k (omega arith)))
+  pub filled_all : (n : ℕ) (xs : List A) → length xs ≡ n → Filled n xs → xs ≡ tabulate f n
+  filled_all n xs e p =
+      ext_get_or d xs (tabulate f n) (e ∙ sym (length_tabulate n)) (λ k l. p k (omega arith) ∙ sym (at_tabulate n k (omega arith)))
 
 -- ---- a list of n numbers that a loop fills, f 0 first
 module _ (f : ℕ → ℤ) (n : ℕ) where
@@ -52,21 +52,21 @@ module _ (f : ℕ → ℤ) (n : ℕ) where
   abbrev pub Filling : ℕ → List ℤ → Type 0
   Filling i xs = (i ≤ n) × (length xs ≡ n) × Filled f (pos 0) i xs
 
-  pub filling-more : (i : ℕ) (xs : List ℤ) (v : ℤ) → i < n → v ≡ f i → Filling i xs → Filling (i + 1) (set xs i v)
-  filling-more i xs v h e p = (omega arith, length-set xs i v ∙ p.1, filled_more f (pos 0) i xs v (omega (arith, p.1)) e p.2)
+  pub filling_more : (i : ℕ) (xs : List ℤ) (v : ℤ) → i < n → v ≡ f i → Filling i xs → Filling (i + 1) (set xs i v)
+  filling_more i xs v h e p = (omega arith, length-set xs i v ∙ p.1, filled_more f (pos 0) i xs v (omega (arith, p.1)) e p.2)
 
-  pub filling-all : (i : ℕ) (xs : List ℤ) → n ≤ i → Filling i xs → xs ≡ tabulate f n
-  filling-all i xs h p = filled-all f (pos 0) n xs p.1 (λ k l. p.2 k (omega arith))
+  pub filling_all : (i : ℕ) (xs : List ℤ) → n ≤ i → Filling i xs → xs ≡ tabulate f n
+  filling_all i xs h p = filled_all f (pos 0) n xs p.1 (λ k l. p.2 k (omega arith))
 
 -- a list copied into one of its length
-pub copied-whole : (n : ℕ) (xs ys : List ℤ) → length xs ≡ n → length ys ≡ n → copied xs ys ≡ xs
+pub copied_whole : (n : ℕ) (xs ys : List ℤ) → length xs ≡ n → length ys ≡ n → copied xs ys ≡ xs
 unfolding copied
-copied-whole n xs ys e f = rw (eq-eqb (length xs) (length ys) (e ∙ sym f))
+copied_whole n xs ys e f = rw (eq-eqb (length xs) (length ys) (e ∙ sym f))
 
 -- ---- a list that is filled place by place from `low` on
 -- nothing is placed yet
-pub none-placed : (g d : ℕ → ℤ) (low n : ℕ) (xs : List ℤ) → Filled d (pos 0) n xs → Filled (between g d low low) (pos 0) n xs
-none-placed g d low n xs p k h = p k h ∙ go (leb low k) refl
+pub none_placed : (g d : ℕ → ℤ) (low n : ℕ) (xs : List ℤ) → Filled d (pos 0) n xs → Filled (between g d low low) (pos 0) n xs
+none_placed g d low n xs p k h = p k h ∙ go (leb low k) refl
   where
     go : (t : Bool) → leb low k ≡ t → d k ≡ between g d low low k
     go true q = rw (q, le-ltb k low (leb-true low k q))
@@ -76,8 +76,8 @@ pub zeros : (n : ℕ) → Filled (λ k. pos 0) (pos 0) n (replicate n (pos 0))
 zeros n k h = get_or-replicate n k (pos 0) (pos 0) h
 
 -- the place at the end is not filled yet
-pub at-end : (g d : ℕ → ℤ) (low m : ℕ) → between g d low m m ≡ d m
-at-end g d low m = go (leb low m)
+pub at_end : (g d : ℕ → ℤ) (low m : ℕ) → between g d low m m ≡ d m
+at_end g d low m = go (leb low m)
   where
     go : (t : Bool) → cond (t && ltb m m) (g m) (d m) ≡ d m
     go true = rw (le-ltb m m (omega arith))
@@ -88,9 +88,9 @@ pub below_end : (g d : ℕ → ℤ) (m k : ℕ) → k < m → between g d 0 m k 
 below_end g d m k h = rw (le-leb 0 k (omega arith), lt-ltb k m h)
 
 -- one place more
-pub placed-more : (g d : ℕ → ℤ) (low m n : ℕ) (xs : List ℤ) (v : ℤ) → low ≤ m → m < length xs → v ≡ g m →
+pub placed_more : (g d : ℕ → ℤ) (low m n : ℕ) (xs : List ℤ) (v : ℤ) → low ≤ m → m < length xs → v ≡ g m →
     Filled (between g d low m) (pos 0) n xs → Filled (between g d low (m + 1)) (pos 0) n (set xs m v)
-placed-more g d low m n xs v h l e p k b = go (eqb k m) refl
+placed_more g d low m n xs v h l e p k b = go (eqb k m) refl
   where
     -- the end moves past m alone
     moved : (t : Bool) → ltb k m ≡ t → (k ≡ m → ⊥) → ltb k m ≡ ltb k (m + 1)

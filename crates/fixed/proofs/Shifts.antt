@@ -12,26 +12,26 @@ use mir.Syntax.{w32, w64}
 use mir.Val.{SFits}
 use borrow.Author.Tests.{leb-true, leb-false}
 use Rattle.fixed.specs.Clip.{clip}
-use Rattle.fixed.specs.Operators.{shift-at}
-use Rattle.fixed.proofs.Bounds.{abs-mul, abs-fits, fits-abs}
-use Rattle.fixed.proofs.Clips.{clip-id, clip-wider}
-use Rattle.fixed.proofs.Signs.{neg_is, pos-is, neg-pos}
+use Rattle.fixed.specs.Operators.{shift_at}
+use Rattle.fixed.proofs.Bounds.{abs_mul, abs_fits, fits_abs}
+use Rattle.fixed.proofs.Clips.{clip_id, clip_wider}
+use Rattle.fixed.proofs.Signs.{neg_is, pos_is, neg_pos}
 
 -- past k places to the left a number is out of range, or 0
-left-more : (k n : ℕ) (v : ℤ) → k ≤ n → clip k (v *ℤ pos (2 ^ k)) ≡ clip k (v *ℤ pos (2 ^ n))
-left-more k n (pos zero) h = ap (clip k) (zero-*ℤ (pos (2 ^ k)) ∙ sym (zero-*ℤ (pos (2 ^ n))))
-left-more k n (pos (suc a)) h = let p = pow_mono h in ap pos (omega arith)
-left-more k n (negsuc a) h =
+left_more : (k n : ℕ) (v : ℤ) → k ≤ n → clip k (v *ℤ pos (2 ^ k)) ≡ clip k (v *ℤ pos (2 ^ n))
+left_more k n (pos zero) h = ap (clip k) (zero-*ℤ (pos (2 ^ k)) ∙ sym (zero-*ℤ (pos (2 ^ n))))
+left_more k n (pos (suc a)) h = let p = pow_mono h in ap pos (omega arith)
+left_more k n (negsuc a) h =
     let p = pow_mono h in
     let q = pow_pos k in
-    ap (clip k) (neg-pos (suc a * 2 ^ k) (suc a * 2 ^ k - 1) (omega arith))
+    ap (clip k) (neg_pos (suc a * 2 ^ k) (suc a * 2 ^ k - 1) (omega arith))
     ∙ ap negsuc (omega arith)
-    ∙ ap (clip k) (sym (neg-pos (suc a * 2 ^ n) (suc a * 2 ^ n - 1) (omega arith)))
+    ∙ ap (clip k) (sym (neg_pos (suc a * 2 ^ n) (suc a * 2 ^ n - 1) (omega arith)))
 
 -- and past k places to the right only the sign is left of a number of k bits
-right-more : (k n : ℕ) (v : ℤ) → mag v < 2 ^ k → k ≤ n → shr_z v (2 ^ k) ≡ shr_z v (2 ^ n)
-right-more k n (pos a) l h = ap pos (div-eq_of_lt l ∙ sym (div-eq_of_lt (lt_of_lt_of_le l (pow_mono h))))
-right-more k n (negsuc a) l h = ap negsuc (div-eq_of_lt l ∙ sym (div-eq_of_lt (lt_of_lt_of_le l (pow_mono h))))
+right_more : (k n : ℕ) (v : ℤ) → mag v < 2 ^ k → k ≤ n → shr_z v (2 ^ k) ≡ shr_z v (2 ^ n)
+right_more k n (pos a) l h = ap pos (div-eq_of_lt l ∙ sym (div-eq_of_lt (lt_of_lt_of_le l (pow_mono h))))
+right_more k n (negsuc a) l h = ap negsuc (div-eq_of_lt l ∙ sym (div-eq_of_lt (lt_of_lt_of_le l (pow_mono h))))
 
 -- so a rule of the count n may be read at the held count, once it holds where n is k or more
 held : {A : Type 0} (f : ℕ → A) (k n : ℕ) → (k ≤ n → f k ≡ f n) → f (min n k) ≡ f n
@@ -41,30 +41,30 @@ held f k n more = go (leb n k) mathlib.Core.Path.refl
     go true e = ap f (omega (arith, leb-true n k e))
     go false e = let l : k ≤ n = omega (arith, leb-false n k e) in ap f (omega arith) ∙ more l
 
-pub left-held : (k n : ℕ) (v : ℤ) → clip k (v *ℤ pos (2 ^ min n k)) ≡ clip k (v *ℤ pos (2 ^ n))
-left-held k n v = held (λ (m : ℕ). clip k (v *ℤ pos (2 ^ m))) k n (left-more k n v)
+pub left_held : (k n : ℕ) (v : ℤ) → clip k (v *ℤ pos (2 ^ min n k)) ≡ clip k (v *ℤ pos (2 ^ n))
+left_held k n v = held (λ (m : ℕ). clip k (v *ℤ pos (2 ^ m))) k n (left_more k n v)
 
-pub right-held : (k n : ℕ) (v : ℤ) → mag v < 2 ^ k → shr_z v (2 ^ min n k) ≡ shr_z v (2 ^ n)
-right-held k n v l = held (λ (m : ℕ). shr_z v (2 ^ m)) k n (right-more k n v l)
+pub right_held : (k n : ℕ) (v : ℤ) → mag v < 2 ^ k → shr_z v (2 ^ min n k) ≡ shr_z v (2 ^ n)
+right_held k n v l = held (λ (m : ℕ). shr_z v (2 ^ m)) k n (right_more k n v l)
 
 -- a long shifted by at most 31 places fits 64 bits
-pub left-fits : {z : ℤ} (n : ℕ) → SFits w32 z → n ≤ 31 → SFits w64 (z *ℤ pos (2 ^ n))
-left-fits {z} n f h =
-    fits-abs w64 (z *ℤ pos (2 ^ n)) (rw (abs-mul z (pos (2 ^ n))) (lt_of_le_of_lt (mul-le-mul (abs-fits f) (pow_mono h)) (lit< tt)))
+pub left_fits : {z : ℤ} (n : ℕ) → SFits w32 z → n ≤ 31 → SFits w64 (z *ℤ pos (2 ^ n))
+left_fits {z} n f h =
+    fits_abs w64 (z *ℤ pos (2 ^ n)) (rw (abs_mul z (pos (2 ^ n))) (lt_of_le_of_lt (mul-le-mul (abs_fits f) (pow_mono h)) (lit< tt)))
 
 -- the sign of the count chooses the side
-pub shift-right-is : (k : ℕ) (v n : ℤ) → lt_z n (pos 0) ≡ true → shr_z v (2 ^ nat_abs n) ≡ shift-at k v n
-unfolding shift-at
-shift-right-is k v n t = rw (neg_is n t)
+pub shift_right_is : (k : ℕ) (v n : ℤ) → lt_z n (pos 0) ≡ true → shr_z v (2 ^ nat_abs n) ≡ shift_at k v n
+unfolding shift_at
+shift_right_is k v n t = rw (neg_is n t)
 
-pub shift-left-is : (k : ℕ) (v n : ℤ) → lt_z n (pos 0) ≡ false → shift-at k v (pos (nat_abs n)) ≡ shift-at k v n
-shift-left-is k v n t = rw (pos-is n t)
+pub shift_left_is : (k : ℕ) (v n : ℤ) → lt_z n (pos 0) ≡ false → shift_at k v (pos (nat_abs n)) ≡ shift_at k v n
+shift_left_is k v n t = rw (pos_is n t)
 
 -- a shift at the width j by way of a wider one
-pub shift-wider : (j k : ℕ) (v n : ℤ) → j ≤ k → mag v < 2 ^ j → clip j (shift-at k v n) ≡ shift-at j v n
-unfolding shift-at
-shift-wider j k v (pos n) h l = clip-wider j k (v *ℤ pos (2 ^ n)) h
-shift-wider j k v (negsuc n) h l = clip-id j (shr_z v (2 ^ suc n)) (lt_of_le_of_lt (mag_shr v (2 ^ suc n)) l)
+pub shift_wider : (j k : ℕ) (v n : ℤ) → j ≤ k → mag v < 2 ^ j → clip j (shift_at k v n) ≡ shift_at j v n
+unfolding shift_at
+shift_wider j k v (pos n) h l = clip_wider j k (v *ℤ pos (2 ^ n)) h
+shift_wider j k v (negsuc n) h l = clip_id j (shr_z v (2 ^ suc n)) (lt_of_le_of_lt (mag_shr v (2 ^ suc n)) l)
 
 -- a shift of a natural number by one place or more halves it at least
 pub half_le : (v n : ℕ) → v / 2 ^ suc n ≤ v / 2

@@ -6,10 +6,10 @@ abbrev pub way : ℕ → ℕ
 way m = m / 1024 % 32768
 
 -- the point of that line, times 65536. The standard writes L_msu (L_deposit_h (from), sub (from, to), way): the same number for words that are not
--- negative, by the law `line-standard`
+-- negative, by the law `line_standard`
 unfoldable pub line : ℕ → ℕ → ℕ → ℕ
 line from to m = 2 * (from * (32768 - way m) + to * way m)
 
 -- the line of a table at m: bits 25 and up of m, less those of the least m, choose the entry
-unfoldable pub table-line : List ℕ → ℕ → ℕ → ℕ
-table-line t least m = line (get_or t (m / 33554432 - least) 0) (get_or t (m / 33554432 - least + 1) 0) m
+unfoldable pub table_line : List ℕ → ℕ → ℕ → ℕ
+table_line t least m = line (get_or t (m / 33554432 - least) 0) (get_or t (m / 33554432 - least + 1) 0) m

@@ -1,19 +1,19 @@
 -- Lists of numbers by the place, and the sums of TS 26.073's loops over them.
 use Rattle.std.specs.Prelude.{Bool, cond, ◌&&◌, List, [], ◌∷◌, ℕ, zero, suc, ◌+◌, ltb, leb, eqb, ℤ, pos, length, get_or}
-use Rattle.fixed.specs.Operators.{L-add, L-mult, shl}
+use Rattle.fixed.specs.Operators.{L_add, L_mult, shl}
 
 -- the number at place i
 abbrev pub at : List ℤ → ℕ → ℤ
 at xs i = get_or xs i (pos 0)
 
 -- f i, f (i + 1), ..: n of them
-unfoldable pub tabulate-from : {A : Type 0} → ℕ → (ℕ → A) → ℕ → List A
-tabulate-from i f zero = []
-tabulate-from i f (suc n) = f i ∷ tabulate-from (suc i) f n
+unfoldable pub tabulate_from : {A : Type 0} → ℕ → (ℕ → A) → ℕ → List A
+tabulate_from i f zero = []
+tabulate_from i f (suc n) = f i ∷ tabulate_from (suc i) f n
 
 -- f 0, .., f (n - 1)
 unfoldable pub tabulate : {A : Type 0} → (ℕ → A) → ℕ → List A
-tabulate f n = tabulate-from 0 f n
+tabulate f n = tabulate_from 0 f n
 
 -- n words of a list, from a place on
 unfoldable pub part : List ℤ → ℕ → ℕ → List ℤ
@@ -32,13 +32,13 @@ abbrev pub between : (ℕ → ℤ) → (ℕ → ℤ) → ℕ → ℕ → ℕ →
 between g d low end k = cond (leb low k && ltb k end) (g k) (d k)
 
 -- s + f 0 + .. + f (n - 1). 01: 'Sums are clipped after every single addition'
-unfoldable pub L-sum : ℤ → (ℕ → ℤ) → ℕ → ℤ
-L-sum s f zero = s
-L-sum s f (suc n) = L-add (L-sum s f n) (f n)
+unfoldable pub L_sum : ℤ → (ℕ → ℤ) → ℕ → ℤ
+L_sum s f zero = s
+L_sum s f (suc n) = L_add (L_sum s f n) (f n)
 
 -- L_mac in a loop over the first n places of two lists
 unfoldable pub dot : List ℤ → List ℤ → ℕ → ℤ
-dot xs ys n = L-sum (pos 0) (λ k. L-mult (at xs k) (at ys k)) n
+dot xs ys n = L_sum (pos 0) (λ k. L_mult (at xs k) (at ys k)) n
 
 -- ---- the loops that look for a greatest value
 -- the place held, or place k where `wins` says so of the held value and its own

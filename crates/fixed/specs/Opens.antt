@@ -1,9 +1,9 @@
 -- One name for an `unfolding` line that computes the definitions of this crate.
 use Rattle.std.specs.Int.Count.{count_leading_zeros}
-use Rattle.fixed.specs.Operators.{add, sub, negate, abs-s, L-add, L-sub, L-negate, L-abs, L-mult, L-mac, L-msu, L-mac-overflow, L-mac-flagged, mult, extract-h, round, extract-l, L-deposit-h, low_half, L-Extract, Mpy-32, Mpy-32-16, shift-at, even-bits, norm-l, div-s}
-use Rattle.fixed.specs.Line.{line, table-line}
-use Rattle.fixed.specs.Lists.{tabulate-from, tabulate, part, shifted, copied, L-sum, dot, better, best}
+use Rattle.fixed.specs.Operators.{add, sub, negate, abs_s, L_add, L_sub, L_negate, L_abs, L_mult, L_mac, L_msu, L_mac_overflow, L_mac_flagged, mult, extract_h, round, extract_l, L_deposit_h, low_half, L_Extract, Mpy_32, Mpy_32_16, shift_at, even_bits, norm_l, div_s}
+use Rattle.fixed.specs.Line.{line, table_line}
+use Rattle.fixed.specs.Lists.{tabulate_from, tabulate, part, shifted, copied, L_sum, dot, better, best}
 
-unfoldable pub fixed-opens : Unit {0}
-unfolding count_leading_zeros add sub negate abs-s L-add L-sub L-negate L-abs L-mult L-mac L-msu L-mac-overflow L-mac-flagged mult extract-h round extract-l L-deposit-h low_half L-Extract Mpy-32 Mpy-32-16 shift-at even-bits norm-l div-s line table-line tabulate-from tabulate part shifted copied L-sum dot better best
-fixed-opens = tt
+unfoldable pub fixed_opens : Unit {0}
+unfolding count_leading_zeros add sub negate abs_s L_add L_sub L_negate L_abs L_mult L_mac L_msu L_mac_overflow L_mac_flagged mult extract_h round extract_l L_deposit_h low_half L_Extract Mpy_32 Mpy_32_16 shift_at even_bits norm_l div_s line table_line tabulate_from tabulate part shifted copied L_sum dot better best
+fixed_opens = tt

@@ -5,7 +5,7 @@
 ghost use Rattle.std.specs.Prelude.{◌≡◌, ◌+◌, ◌*◌, ◌^◌, min, pos, nat_abs, ◌*ℤ◌};
 ghost use Rattle.std.specs.Int.Signed.{mag, shr_z};
 ghost use Rattle.fixed.specs.Clip.{clip};
-ghost use Rattle.fixed.specs.Operators.{add, sub, negate, abs-s, L-add, L-sub, L-negate, L-abs, L-mult, L-mac, L-msu, mult, extract-h, round, extract-l, L-deposit-h, L-shl, shl, even-bits, norm-l};
+ghost use Rattle.fixed.specs.Operators.{add, sub, negate, abs_s, L_add, L_sub, L_negate, L_abs, L_mult, L_mac, L_msu, mult, extract_h, round, extract_l, L_deposit_h, L_shl, shl, even_bits, norm_l};
 
 // Twice this is a long, and twice the next number is not.
 const MOST_UNDOUBLED: i32 = 1073741823;
@@ -57,7 +57,7 @@ pub fn negate16(v: i16) -> i16
 }
 
 pub fn absolute16(v: i16) -> i16
-    ensures { result ≡ abs-s v }
+    ensures { result ≡ abs_s v }
 {
     if v < 0 {
         return negate16(v);
@@ -68,25 +68,25 @@ pub fn absolute16(v: i16) -> i16
 // ---- Longs.
 
 pub fn add32(a: i32, b: i32) -> i32
-    ensures { result ≡ L-add a b }
+    ensures { result ≡ L_add a b }
 {
     clip32(a as i64 + b as i64)
 }
 
 pub fn sub32(a: i32, b: i32) -> i32
-    ensures { result ≡ L-sub a b }
+    ensures { result ≡ L_sub a b }
 {
     clip32(a as i64 - b as i64)
 }
 
 pub fn negate32(v: i32) -> i32
-    ensures { result ≡ L-negate v }
+    ensures { result ≡ L_negate v }
 {
     sub32(0, v)
 }
 
 pub fn absolute32(v: i32) -> i32
-    ensures { result ≡ L-abs v }
+    ensures { result ≡ L_abs v }
 {
     if v < 0 {
         return negate32(v);
@@ -105,7 +105,7 @@ pub fn exact(a: i16, b: i16) -> i32
 
 // Only -32768 by -32768 is too great when doubled, and one test of the product finds it.
 pub fn product(a: i16, b: i16) -> i32
-    ensures { result ≡ L-mult a b }
+    ensures { result ≡ L_mult a b }
 {
     let p = a as i32 * b as i32;
     if MOST_UNDOUBLED < p {
@@ -115,13 +115,13 @@ pub fn product(a: i16, b: i16) -> i32
 }
 
 pub fn mac(sum: i32, a: i16, b: i16) -> i32
-    ensures { result ≡ L-mac sum a b }
+    ensures { result ≡ L_mac sum a b }
 {
     add32(sum, product(a, b))
 }
 
 pub fn msu(sum: i32, a: i16, b: i16) -> i32
-    ensures { result ≡ L-msu sum a b }
+    ensures { result ≡ L_msu sum a b }
 {
     sub32(sum, product(a, b))
 }
@@ -143,7 +143,7 @@ pub fn fractional(a: i16, b: i16) -> i16
 // ---- The words of a long.
 
 pub fn high(v: i32) -> i16
-    ensures { result ≡ extract-h v }
+    ensures { result ≡ extract_h v }
 {
     (v >> 16) as i16
 }
@@ -156,7 +156,7 @@ pub fn rounded(v: i32) -> i16
 
 // The low 16 bits, read as signed.
 pub fn low_word(v: i32) -> i16
-    ensures { result ≡ extract-l v }
+    ensures { result ≡ extract_l v }
 {
     let s = v as i64 + 32768;
     (s - (s >> 16) * 65536 - 32768) as i16
@@ -164,14 +164,14 @@ pub fn low_word(v: i32) -> i16
 
 // The word of two bytes.
 pub fn word(high: u8, low: u8) -> i16
-    ensures { result ≡ extract-l (pos (high * 256 + low)) }
+    ensures { result ≡ extract_l (pos (high * 256 + low)) }
 {
     let bits = high as u16 * 256 + low as u16;
     low_word(bits as i32)
 }
 
 pub fn deposit_high(v: i16) -> i32
-    ensures { result ≡ L-deposit-h v }
+    ensures { result ≡ L_deposit_h v }
 {
     v as i32 * 65536
 }
@@ -224,7 +224,7 @@ fn power_of_two(n: u32) -> i64
 }
 
 fn shift_left(v: i32, n: u32) -> i32
-    ensures { result ≡ L-shl v (pos n) }
+    ensures { result ≡ L_shl v (pos n) }
 {
     clip32(v as i64 * power_of_two(n))
 }
@@ -236,7 +236,7 @@ fn shift_right(v: i32, n: u32) -> i32
 }
 
 pub fn shift(v: i32, n: i16) -> i32
-    ensures { result ≡ L-shl v n }
+    ensures { result ≡ L_shl v n }
 {
     let count = unsigned_abs(n as i32);
     if n < 0 {
@@ -254,14 +254,14 @@ pub fn shift_word(v: i16, n: i16) -> i16
 
 // `v & !1`.
 pub fn even(v: i32) -> i32
-    ensures { result ≡ even-bits v }
+    ensures { result ≡ even_bits v }
 {
     (v >> 1) * 2
 }
 
 // How far a long can be shifted to the left without clipping: 0 for 0, 31 for -1.
 pub fn normalize(v: i32) -> i16
-    ensures { result ≡ pos (norm-l v) }
+    ensures { result ≡ pos (norm_l v) }
 {
     if v == 0 {
         return 0;

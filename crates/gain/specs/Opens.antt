@@ -1,10 +1,10 @@
 -- One name for an `unfolding` line that computes the definitions of this crate.
-use Rattle.logarithm.specs.Opens.{logarithm-opens}
-use Rattle.gain_limit.specs.Limits.{limit-choice}
-use Rattle.gain_coefficients.specs.Opens.{coefficients-opens}
-use Rattle.gain_choice.specs.Opens.{choice-opens}
-use Rattle.gain.specs.Rows.{gcode0, weights, Qua-gain, quantize}
+use Rattle.logarithm.specs.Opens.{logarithm_opens}
+use Rattle.gain_limit.specs.Limits.{limit_choice}
+use Rattle.gain_coefficients.specs.Opens.{coefficients_opens}
+use Rattle.gain_choice.specs.Opens.{choice_opens}
+use Rattle.gain.specs.Rows.{gcode0, weights, Qua_gain, quantize}
 
-unfoldable pub gain-opens : Unit {0}
-unfolding logarithm-opens limit-choice coefficients-opens choice-opens gcode0 weights Qua-gain quantize
-gain-opens = tt
+unfoldable pub gain_opens : Unit {0}
+unfolding logarithm_opens limit_choice coefficients_opens choice_opens gcode0 weights Qua_gain quantize
+gain_opens = tt

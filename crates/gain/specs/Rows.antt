@@ -1,15 +1,15 @@
 -- TS 26.073 Qua_gain at 7.4 kbit/s: the row of the table that is nearest, and the entry.
 use Rattle.std.specs.Prelude.{List, [], ◌∷◌, ℕ, ℤ, pos, negsuc}
-use Rattle.fixed.specs.Operators.{sub, extract-l}
+use Rattle.fixed.specs.Operators.{sub, extract_l}
 use Rattle.fixed.specs.Lists.{shifted}
 use Rattle.refusal.specs.Refused.{Told, values, refused, turned_down}
-use Rattle.refusal.specs.Checks.{Check, checked, length-is, known-limit, predicted-exponent, power-fraction}
+use Rattle.refusal.specs.Checks.{Check, checked, length_is, known_limit, predicted_exponent, power_fraction}
 use Rattle.logarithm.specs.Powers.{power}
 use Rattle.gain_table.specs.Rows.{row}
-use Rattle.gain_pitch.specs.Gains.{G-pitch}
-use Rattle.gain_limit.specs.Limits.{gp-limit}
+use Rattle.gain_pitch.specs.Gains.{G_pitch}
+use Rattle.gain_limit.specs.Limits.{gp_limit}
 use Rattle.gain_coefficients.specs.Energies.{coefficients}
-use Rattle.gain_choice.specs.Rows.{nearest-row}
+use Rattle.gain_choice.specs.Rows.{nearest_row}
 use Rattle.gain.specs.declared.QuantizedGain.{QuantizedGain}
 use Rattle.gain.specs.declared.Quantized.{Quantized}
 use Rattle.gain.specs.declared.Quantized.TheVariants.{Row, Refused}
@@ -17,35 +17,35 @@ use Rattle.gain.specs.declared.Quantized.TheVariants.{Row, Refused}
 -- ---- the stage
 -- 'gcode0 = extract_l (Pow2 (14, frac_gcode0))'
 unfoldable pub gcode0 : ℕ → ℤ
-gcode0 fraction = extract-l (pos (power 14 fraction))
+gcode0 fraction = extract_l (pos (power 14 fraction))
 
 -- the weights of a stage's inputs: the innovation is shifted down by 3 first
 unfoldable pub weights : List ℤ → List ℤ → List ℤ → ℤ → List ℤ
-weights xs ys zs exponent = coefficients xs ys (shifted zs (negsuc 2) 40) (G-pitch xs ys) (sub exponent (pos 11))
+weights xs ys zs exponent = coefficients xs ys (shifted zs (negsuc 2) 40) (G_pitch xs ys) (sub exponent (pos 11))
 
 abbrev pub chosen : ℕ → QuantizedGain
 chosen i = record { index = i; row = row i }
 
-unfoldable pub Qua-gain : List ℤ → List ℤ → List ℤ → ℤ → ℕ → ℤ → QuantizedGain
-Qua-gain xs ys zs exponent fraction limit = chosen (nearest-row (weights xs ys zs exponent) (gcode0 fraction) limit)
+unfoldable pub Qua_gain : List ℤ → List ℤ → List ℤ → ℤ → ℕ → ℤ → QuantizedGain
+Qua_gain xs ys zs exponent fraction limit = chosen (nearest_row (weights xs ys zs exponent) (gcode0 fraction) limit)
 
 -- ---- the entry
 -- an answer as 01 gives it
-abbrev pub told-row : Quantized → Told QuantizedGain
-told-row (Row q) = values q
-told-row (Refused r) = turned_down r
+abbrev pub told_row : Quantized → Told QuantizedGain
+told_row (Row q) = values q
+told_row (Refused r) = turned_down r
 
 -- what is left to check once the limit is known
 abbrev pub limited : List ℤ → List ℤ → List ℤ → ℤ → ℕ → ℕ → Told QuantizedGain
 limited xs ys zs exponent fraction choice =
-    checked (predicted-exponent exponent ∷ power-fraction fraction ∷ []) refused (values (Qua-gain xs ys zs exponent fraction (gp-limit choice)))
+    checked (predicted_exponent exponent ∷ power_fraction fraction ∷ []) refused (values (Qua_gain xs ys zs exponent fraction (gp_limit choice)))
 
 -- 01, numbers 1, 2 and 7, then 02, number 14, in that order
-abbrev pub gain-checks : List ℤ → List ℤ → List ℤ → ℤ → ℕ → ℕ → List Check
-gain-checks xs ys zs exponent fraction choice =
-    length-is 40 xs ∷ length-is 40 ys ∷ length-is 40 zs ∷ known-limit choice ∷ predicted-exponent exponent ∷ power-fraction fraction ∷ []
+abbrev pub gain_checks : List ℤ → List ℤ → List ℤ → ℤ → ℕ → ℕ → List Check
+gain_checks xs ys zs exponent fraction choice =
+    length_is 40 xs ∷ length_is 40 ys ∷ length_is 40 zs ∷ known_limit choice ∷ predicted_exponent exponent ∷ power_fraction fraction ∷ []
 
 -- `quantize`
 unfoldable pub quantize : List ℤ → List ℤ → List ℤ → ℤ → ℕ → ℕ → Told QuantizedGain
 quantize xs ys zs exponent fraction choice =
-    checked (gain-checks xs ys zs exponent fraction choice) refused (values (Qua-gain xs ys zs exponent fraction (gp-limit choice)))
+    checked (gain_checks xs ys zs exponent fraction choice) refused (values (Qua_gain xs ys zs exponent fraction (gp_limit choice)))

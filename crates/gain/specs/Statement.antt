@@ -1,46 +1,46 @@
 -- 02, request 14: the resonance limit beside none, for the same lists and the same predicted pair.
 use Rattle.std.specs.Prelude.{◌≡◌, List, ℕ, ◌≤◌, ℤ, pos, negsuc, replicate, ◌≤ℤ◌}
 use Rattle.refusal.specs.Refused.{values}
-use Rattle.gain_limit.specs.Limits.{gp-limit}
-use Rattle.gain_choice.specs.Rows.{row-distance}
+use Rattle.gain_limit.specs.Limits.{gp_limit}
+use Rattle.gain_choice.specs.Rows.{row_distance}
 use Rattle.gain.specs.declared.QuantizedGain.{QuantizedGain}
-use Rattle.gain.specs.Rows.{gcode0, weights, Qua-gain, quantize}
+use Rattle.gain.specs.Rows.{gcode0, weights, Qua_gain, quantize}
 
 -- of the distances of a stage's rows: `free` is the row chosen unrestricted and `held` the one under the resonance limit, each of least distance within
--- its limit (`chosen-row`)
+-- its limit (`chosen_row`)
 pub record Beside (distance : ℕ → ℤ) (free held : ℕ) : Type 0 where
   -- 'the least distance under the resonance limit is never below the unrestricted one'
-  pub never-below : distance free ≤ℤ distance held
+  pub never_below : distance free ≤ℤ distance held
   -- 'the two rows are equal exactly when the unrestricted row is 95 or lower'
   pub equal : free ≤ 95 → held ≡ free
   pub only_then : held ≡ free → free ≤ 95
 
 -- the distances of the rows
-abbrev pub distance-of : List ℤ → List ℤ → List ℤ → ℤ → ℕ → ℕ → ℤ
-distance-of xs ys zs exponent fraction = row-distance (weights xs ys zs exponent) (gcode0 fraction)
+abbrev pub distance_of : List ℤ → List ℤ → List ℤ → ℤ → ℕ → ℕ → ℤ
+distance_of xs ys zs exponent fraction = row_distance (weights xs ys zs exponent) (gcode0 fraction)
 
 -- of the stage, whatever the lists and the pair
-unfoldable pub Limits-of-the-stage : Type 0
-Limits-of-the-stage =
+unfoldable pub LimitsOfTheStage : Type 0
+LimitsOfTheStage =
     (xs ys zs : List ℤ) (exponent : ℤ) (fraction : ℕ) →
-    Beside (distance-of xs ys zs exponent fraction)
-    (Qua-gain xs ys zs exponent fraction (gp-limit 0)).index (Qua-gain xs ys zs exponent fraction (gp-limit 1)).index
+    Beside (distance_of xs ys zs exponent fraction)
+    (Qua_gain xs ys zs exponent fraction (gp_limit 0)).index (Qua_gain xs ys zs exponent fraction (gp_limit 1)).index
 
 -- of the entry: where `quantize` answers with the choice 0 it answers with the choice 1
-pub record Answered-too (xs ys zs : List ℤ) (exponent : ℤ) (fraction : ℕ) (q : QuantizedGain) : Type 0 where
+pub record AnsweredToo (xs ys zs : List ℤ) (exponent : ℤ) (fraction : ℕ) (q : QuantizedGain) : Type 0 where
   pub other : QuantizedGain
   pub answered : quantize xs ys zs exponent fraction 1 ≡ values other
-  pub beside : Beside (distance-of xs ys zs exponent fraction) q.index other.index
+  pub beside : Beside (distance_of xs ys zs exponent fraction) q.index other.index
 
-unfoldable pub Limits-of-the-entry : Type 0
-Limits-of-the-entry =
+unfoldable pub LimitsOfTheEntry : Type 0
+LimitsOfTheEntry =
     (xs ys zs : List ℤ) (exponent : ℤ) (fraction : ℕ) (q : QuantizedGain) →
-    quantize xs ys zs exponent fraction 0 ≡ values q → Answered-too xs ys zs exponent fraction q
+    quantize xs ys zs exponent fraction 0 ≡ values q → AnsweredToo xs ys zs exponent fraction q
 
 -- ---- computed
 -- the row of lists that hold one word each, with the fraction 0
 abbrev pub row_of : ℤ → ℤ → ℤ → ℤ → ℕ → ℕ
-row_of x y z exponent choice = (Qua-gain (replicate 40 x) (replicate 40 y) (replicate 40 z) exponent 0 (gp-limit choice)).index
+row_of x y z exponent choice = (Qua_gain (replicate 40 x) (replicate 40 y) (replicate 40 z) exponent 0 (gp_limit choice)).index
 
 -- 95 is the last row that is the same under both, 96 the first that is not
 unfoldable pub Examples : Type 0

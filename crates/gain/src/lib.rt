@@ -2,9 +2,9 @@
 #![tactic(auto)]
 
 ghost use Rattle.std.specs.Prelude.{◌≡◌};
-ghost use Rattle.gain_limit.specs.Limits.{limit-number};
-ghost use Rattle.gain_choice.specs.Rows.{nearest-row};
-ghost use Rattle.gain.specs.Rows.{weights, chosen, told-row, limited, quantize};
+ghost use Rattle.gain_limit.specs.Limits.{limit_number};
+ghost use Rattle.gain_choice.specs.Rows.{nearest_row};
+ghost use Rattle.gain.specs.Rows.{weights, chosen, told_row, limited, quantize};
 
 use gain_limit::{GainLimit, LimitChoice};
 use gain_table::GainRow;
@@ -41,7 +41,7 @@ pub fn quantize(
     fraction: u16,
     limit: u8,
 ) -> Quantized
-    ensures { told-row result ≡ quantize target.now adaptive.now filtered_innovation_q12.now exponent fraction limit }
+    ensures { told_row result ≡ quantize target.now adaptive.now filtered_innovation_q12.now exponent fraction limit }
 {
     if target.len() != SUBFRAME_SAMPLES {
         return Quantized::Refused(Refusal::Length(target.len()));
@@ -74,7 +74,7 @@ fn limited(
     fraction: u16,
     limit: GainLimit,
 ) -> Quantized
-    ensures { told-row result ≡ limited target.now adaptive.now filtered.now exponent fraction (limit-number limit) }
+    ensures { told_row result ≡ limited target.now adaptive.now filtered.now exponent fraction (limit_number limit) }
 {
     if exponent < MIN_EXPONENT {
         return Quantized::Refused(Refusal::Exponent(exponent));
@@ -101,7 +101,7 @@ fn qua_gain(
     gcode0: i16,
     limit_q14: i16,
 ) -> QuantizedGain
-    ensures { result ≡ chosen (nearest-row (weights target.now adaptive.now filtered.now exponent) gcode0 limit_q14) }
+    ensures { result ≡ chosen (nearest_row (weights target.now adaptive.now filtered.now exponent) gcode0 limit_q14) }
 {
     let gain = gain_pitch::g_pitch(target, adaptive);
     let innovation = sums::shifted40(filtered, -3);

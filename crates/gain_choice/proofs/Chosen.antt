@@ -6,13 +6,13 @@ use Prim.Native.Nat.{ℕ, ◌<◌}
 use native.Mathlib.Omega.{arith}
 use lib.IntN.{ℤ, pos}
 use Rattle.fixed.specs.Lists.{at, tabulate}
-use Rattle.fixed.proofs.Lists.{at-tabulate}
-use Rattle.gain_choice.specs.Rows.{row-distance, distances, within-limit, nearest-row, Lowest-of-least}
-use Rattle.gain_choice.proofs.Leasts.{lowest-of-least}
+use Rattle.fixed.proofs.Lists.{at_tabulate}
+use Rattle.gain_choice.specs.Rows.{row_distance, distances, within_limit, nearest_row, LowestOfLeast}
+use Rattle.gain_choice.proofs.Leasts.{lowest_of_least}
 
 -- only the distances of the n rows count
-same-distances : (within : ℕ → Bool) (d e : ℕ → ℤ) (n i : ℕ) → ((k : ℕ) → k < n → d k ≡ e k) → Lowest-of-least within d n i → Lowest-of-least within e n i
-same-distances within d e n i p L =
+same_distances : (within : ℕ → Bool) (d e : ℕ → ℤ) (n i : ℕ) → ((k : ℕ) → k < n → d k ≡ e k) → LowestOfLeast within d n i → LowestOfLeast within e n i
+same_distances within d e n i p L =
     let here = p i L.row in
     let h = L.row in
     record {
@@ -23,8 +23,8 @@ same-distances within d e n i p L =
     }
 
 -- where row 0 is within the limit
-pub nearest-is : (ws : List ℤ) (g limit : ℤ) → within-limit limit 0 ≡ true → Lowest-of-least (within-limit limit) (row-distance ws g) 128 (nearest-row ws g limit)
-unfolding nearest-row distances
-nearest-is ws g limit h =
-    same-distances (within-limit limit) (at (tabulate (row-distance ws g) 128)) (row-distance ws g) 128 _ (λ k l. at-tabulate (row-distance ws g) (pos 0) 128 k l)
-    (lowest-of-least (within-limit limit) (at (tabulate (row-distance ws g) 128)) 127 h)
+pub nearest_is : (ws : List ℤ) (g limit : ℤ) → within_limit limit 0 ≡ true → LowestOfLeast (within_limit limit) (row_distance ws g) 128 (nearest_row ws g limit)
+unfolding nearest_row distances
+nearest_is ws g limit h =
+    same_distances (within_limit limit) (at (tabulate (row_distance ws g) 128)) (row_distance ws g) 128 _ (λ k l. at_tabulate (row_distance ws g) (pos 0) 128 k l)
+    (lowest_of_least (within_limit limit) (at (tabulate (row_distance ws g) 128)) 127 h)

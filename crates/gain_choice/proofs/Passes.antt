@@ -7,17 +7,17 @@ use lib.Dec.{ltb}
 use lib.IntN.{ℤ, pos, negsuc}
 use lib.Signed.{mag, lt_z, ≤ℤ_refl, clash_ℤ}
 use borrow.Author.Tests.{ltb-true, ltb-false, le-ltb}
-use Rattle.gain_choice.specs.Rows.{nearer, nearest, Lowest-of-least}
-use Rattle.gain_choice.proofs.Leasts.{nearest-more, lowest-of-least}
+use Rattle.gain_choice.specs.Rows.{nearer, nearest, LowestOfLeast}
+use Rattle.gain_choice.proofs.Leasts.{nearest_more, lowest_of_least}
 
 -- no limit
 abbrev pub every : ℕ → Bool
 every k = true
 
 -- the greatest long is below no long
-none-above : (z : ℤ) → mag z < 2147483648 → lt_z (pos 2147483647) z ≡ false
-none-above (pos n) h = le-ltb 2147483647 n (omega arith)
-none-above (negsuc n) h = refl
+none_above : (z : ℤ) → mag z < 2147483648 → lt_z (pos 2147483647) z ≡ false
+none_above (pos n) h = le-ltb 2147483647 n (omega arith)
+none_above (negsuc n) h = refl
 
 -- ---- the limit
 module _ (within : ℕ → Bool) (d e : ℕ → ℤ) where
@@ -28,46 +28,46 @@ module _ (within : ℕ → Bool) (d e : ℕ → ℤ) where
     unfolding nearer
     next true true a b = let g : e (suc n) ≡ d (suc n) = rw a at f in rw (a, g, q, b) (refl, omega arith, g)
     next true false a b = let g : e (suc n) ≡ d (suc n) = rw a at f in rw (a, g, q, b) (refl, omega arith, q)
-    next false t a b = let g : e (suc n) ≡ pos 2147483647 = rw a at f in rw (a, g, q, none-above (d i) h) (refl, omega arith, refl)
+    next false t a b = let g : e (suc n) ≡ pos 2147483647 = rw a at f in rw (a, g, q, none_above (d i) h) (refl, omega arith, refl)
 
   module _ (o : e 0 ≡ d 0) where
-    same-row : (n : ℕ) → ((k : ℕ) → zero < k → k ≤ n → e k ≡ cond (within k) (d k) (pos 2147483647)) → ((k : ℕ) → k ≤ n → mag (d k) < 2147483648) →
+    same_row : (n : ℕ) → ((k : ℕ) → zero < k → k ≤ n → e k ≡ cond (within k) (d k) (pos 2147483647)) → ((k : ℕ) → k ≤ n → mag (d k) < 2147483648) →
         (nearest within d n ≡ nearest every e n) × (nearest within d n ≤ n) × (e (nearest within d n) ≡ d (nearest within d n))
     unfolding nearest
-    same-row zero p h = (refl, omega arith, o)
-    same-row (suc n) p h =
-        let v = same-row n (λ k z l. p k z (omega arith)) (λ k l. h k (omega arith)) in
+    same_row zero p h = (refl, omega arith, o)
+    same_row (suc n) p h =
+        let v = same_row n (λ k z l. p k z (omega arith)) (λ k l. h k (omega arith)) in
         rw (← v.0) (next n (nearest within d n) v.1 v.2 (p (suc n) (omega arith) (omega arith)) (h _ (omega (arith, v.1))) _ _ refl refl)
 
     -- the greatest long for each row past the limit, but not for row 0: the choice without a limit is the one within it
-    pub without-limit : (n : ℕ) → ((k : ℕ) → zero < k → k ≤ n → e k ≡ cond (within k) (d k) (pos 2147483647)) → ((k : ℕ) → k ≤ n → mag (d k) < 2147483648) →
+    pub without_limit : (n : ℕ) → ((k : ℕ) → zero < k → k ≤ n → e k ≡ cond (within k) (d k) (pos 2147483647)) → ((k : ℕ) → k ≤ n → mag (d k) < 2147483648) →
         nearest every e n ≡ nearest within d n
-    without-limit n p h = sym (same-row n p h).0
+    without_limit n p h = sym (same_row n p h).0
 
 -- ---- the least distance
 module _ (d : ℕ → ℤ) where
   later : (i : ℕ) → zero < i → (t : Bool) → lt_z (d i) (d (nearest every d (i - 1))) ≡ t →
       cond t (d i) (d (nearest every d (i - 1))) ≡ d (nearest every d (i + 1 - 1))
-  later i z true q = rw (nearest-more every d i true z q)
-  later i z false q = rw (nearest-more every d i false z q)
+  later i z true q = rw (nearest_more every d i true z q)
+  later i z false q = rw (nearest_more every d i false z q)
 
   -- with one row more, i
-  pub least-more : (i : ℕ) →
+  pub least_more : (i : ℕ) →
       cond (lt_z (d i) (d (nearest every d (i - 1)))) (d i) (d (nearest every d (i - 1))) ≡ d (nearest every d (i + 1 - 1))
   unfolding nearest
-  least-more zero = same (lt_z (d 0) (d 0))
+  least_more zero = same (lt_z (d 0) (d 0))
     where
       same : (t : Bool) → cond t (d 0) (d 0) ≡ d 0
       same true = refl
       same false = refl
-  least-more (suc k) = later (suc k) (omega arith) _ refl
+  least_more (suc k) = later (suc k) (omega arith) _ refl
 
   -- its first place is the row that the search ends at
-  found : (n : ℕ) → Lowest-of-least every d (suc n) (nearest every d n)
-  found n = lowest-of-least every d n refl
+  found : (n : ℕ) → LowestOfLeast every d (suc n) (nearest every d n)
+  found n = lowest_of_least every d n refl
 
-  pub first-place : (n i : ℕ) → ((k : ℕ) → k < i → d k ≡ d (nearest every d n) → ⊥) → i ≤ n → d i ≡ d (nearest every d n) → i ≡ nearest every d n
-  first-place n i o h e = go (ltb i (nearest every d n)) refl (ltb (nearest every d n) i) refl
+  pub first_place : (n i : ℕ) → ((k : ℕ) → k < i → d k ≡ d (nearest every d n) → ⊥) → i ≤ n → d i ≡ d (nearest every d n) → i ≡ nearest every d n
+  first_place n i o h e = go (ltb i (nearest every d n)) refl (ltb (nearest every d n) i) refl
     where
       go : (s : Bool) → ltb i (nearest every d n) ≡ s → (t : Bool) → ltb (nearest every d n) i ≡ t → i ≡ nearest every d n
       go true p t q = clash_ℤ ((found n).lowest i (ltb-true _ _ p) refl) (rw e (≤ℤ_refl (d (nearest every d n))))
@@ -75,5 +75,5 @@ module _ (d : ℕ → ℤ) where
       go false p false q = omega (arith, ltb-false _ _ p, ltb-false _ _ q)
 
   -- one of the rows 0 to n has it
-  pub some-place : (n i : ℕ) → n < i → ((k : ℕ) → k < i → d k ≡ d (nearest every d n) → ⊥) → ⊥
-  some-place n i h o = let l = (found n).row in o (nearest every d n) (omega arith) refl
+  pub some_place : (n i : ℕ) → n < i → ((k : ℕ) → k < i → d k ≡ d (nearest every d n) → ⊥) → ⊥
+  some_place n i h o = let l = (found n).row in o (nearest every d n) (omega arith) refl

@@ -1,7 +1,7 @@
 -- One name for an `unfolding` line that computes the definitions of this crate.
-use Rattle.gain_table.specs.Opens.{table-opens}
-use Rattle.gain_choice.specs.Rows.{products, term, distance, row-distance, distances, nearer, nearest, nearest-row}
+use Rattle.gain_table.specs.Opens.{table_opens}
+use Rattle.gain_choice.specs.Rows.{products, term, distance, row_distance, distances, nearer, nearest, nearest_row}
 
-unfoldable pub choice-opens : Unit {0}
-unfolding table-opens products term distance row-distance distances nearer nearest nearest-row
-choice-opens = tt
+unfoldable pub choice_opens : Unit {0}
+unfolding table_opens products term distance row_distance distances nearer nearest nearest_row
+choice_opens = tt

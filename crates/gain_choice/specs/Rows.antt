@@ -1,8 +1,8 @@
 -- TS 26.073 Qua_gain at 7.4 kbit/s: the row of the table that is nearest.
 use Rattle.std.specs.Prelude.{◌≡◌, Bool, true, cond, ◌&&◌, List, [], ◌∷◌, ℕ, zero, suc, ◌<◌, ℤ, pos, ◌≤ℤ◌, ◌<ℤ◌}
 use Rattle.std.specs.Int.Signed.{lt_z, le_z}
-use Rattle.fixed.specs.Operators.{L-add, mult, Mpy-32-16}
-use Rattle.fixed.specs.Lists.{at, tabulate, L-sum}
+use Rattle.fixed.specs.Operators.{L_add, mult, Mpy_32_16}
+use Rattle.fixed.specs.Lists.{at, tabulate, L_sum}
 use Rattle.gain_table.specs.Rows.{pitch, correction}
 
 -- ---- the distance
@@ -12,18 +12,18 @@ products pitch code = mult pitch pitch ∷ pitch ∷ mult code code ∷ code ∷
 
 -- one more term: L_add of Mpy_32_16 of a coefficient and a product
 unfoldable pub term : ℤ → ℤ → ℤ → ℤ
-term s weight product = L-add s (Mpy-32-16 weight product)
+term s weight product = L_add s (Mpy_32_16 weight product)
 
 -- 01's 'clipped distance': five terms, clipped after every addition
 unfoldable pub distance : List ℤ → ℤ → ℤ → ℤ
-distance weights pitch code = L-sum (pos 0) (λ k. Mpy-32-16 (at weights k) (at (products pitch code) k)) 5
+distance weights pitch code = L_sum (pos 0) (λ k. Mpy_32_16 (at weights k) (at (products pitch code) k)) 5
 
 -- of row i: its correction times gcode0 is the code's gain
-unfoldable pub row-distance : List ℤ → ℤ → ℕ → ℤ
-row-distance weights g i = distance weights (pitch i) (mult (correction i) g)
+unfoldable pub row_distance : List ℤ → ℤ → ℕ → ℤ
+row_distance weights g i = distance weights (pitch i) (mult (correction i) g)
 
 unfoldable pub distances : List ℤ → ℤ → List ℤ
-distances weights g = tabulate (row-distance weights g) 128
+distances weights g = tabulate (row_distance weights g) 128
 
 -- ---- the choice
 -- row k replaces the row held where it lies within the limit and its distance is below
@@ -36,7 +36,7 @@ nearest within d zero = 0
 nearest within d (suc n) = nearer within d (nearest within d n) (suc n)
 
 -- what that is: 01's 'lowest index of least clipped distance among rows within the limit', of n rows
-pub record Lowest-of-least (within : ℕ → Bool) (d : ℕ → ℤ) (n i : ℕ) : Type 0 where
+pub record LowestOfLeast (within : ℕ → Bool) (d : ℕ → ℤ) (n i : ℕ) : Type 0 where
   pub row : i < n
   pub allowed : within i ≡ true
   pub least : (k : ℕ) → k < n → within k ≡ true → d i ≤ℤ d k
@@ -44,9 +44,9 @@ pub record Lowest-of-least (within : ℕ → Bool) (d : ℕ → ℤ) (n i : ℕ)
 
 -- ---- the search
 -- 'if (g_pitch <= gp_limit)'
-abbrev pub within-limit : ℤ → ℕ → Bool
-within-limit limit k = le_z (pitch k) limit
+abbrev pub within_limit : ℤ → ℕ → Bool
+within_limit limit k = le_z (pitch k) limit
 
 -- the index
-unfoldable pub nearest-row : List ℤ → ℤ → ℤ → ℕ
-nearest-row ws g limit = nearest (within-limit limit) (at (distances ws g)) 127
+unfoldable pub nearest_row : List ℤ → ℤ → ℤ → ℕ
+nearest_row ws g limit = nearest (within_limit limit) (at (distances ws g)) 127

@@ -3,16 +3,16 @@
 
 ghost use Rattle.std.specs.Prelude.{true, cond, ◌≡◌, [], ◌∷◌, ℕ, ◌<◌, ◌≤◌, pos, nat_abs};
 ghost use Rattle.std.specs.Int.Signed.{lt_z, le_z};
-ghost use Rattle.fixed.specs.Operators.{mult, Mpy-32-16};
-ghost use Rattle.fixed.specs.Lists.{at, tabulate, L-sum};
+ghost use Rattle.fixed.specs.Operators.{mult, Mpy_32_16};
+ghost use Rattle.fixed.specs.Lists.{at, tabulate, L_sum};
 ghost use Rattle.gain_table.specs.Rows.{pitch, pitches, corrections};
-ghost use Rattle.gain_choice.specs.Rows.{term, distances, nearest, nearest-row};
+ghost use Rattle.gain_choice.specs.Rows.{term, distances, nearest, nearest_row};
 
 const ROWS: usize = 128;
 
 // The index of the nearest row whose pitch gain is within the limit, 0 where there is none.
 pub fn nearest_row(weights: &[i32; 5], gcode0: i16, limit_q14: i16) -> u16
-    ensures { result ≡ nearest-row weights.now gcode0 limit_q14 }
+    ensures { result ≡ nearest_row weights.now gcode0 limit_q14 }
 {
     let pitches = gain_table::pitches();
     let far = distances(weights, &pitches, &gain_table::corrections(), gcode0);
@@ -76,7 +76,7 @@ fn distance(
     both: i16,
 ) -> i32
     requires { (nat_abs pitch_square ≤ 32767) × (nat_abs pitch ≤ 32767) × (nat_abs code_square ≤ 32767) × (nat_abs code ≤ 32767) × (nat_abs both ≤ 32767) }
-    ensures { result ≡ L-sum (pos 0) (λ k. Mpy-32-16 (at weights.now k) (at (pitch_square ∷ pitch ∷ code_square ∷ code ∷ both ∷ []) k)) 5 }
+    ensures { result ≡ L_sum (pos 0) (λ k. Mpy_32_16 (at weights.now k) (at (pitch_square ∷ pitch ∷ code_square ∷ code ∷ both ∷ []) k)) 5 }
 {
     let one = term(0, weights[0], pitch_square);
     let two = term(one, weights[1], pitch);
@@ -95,7 +95,7 @@ fn term(sum: i32, weight: i32, product: i16) -> i32
 // The product by a word that is not -32768: nothing is clipped, so the two halves' products are added first and doubled once.
 fn weighted(weight: i32, product: i16) -> i32
     requires { nat_abs product ≤ 32767 }
-    ensures { result ≡ Mpy-32-16 weight product }
+    ensures { result ≡ Mpy_32_16 weight product }
 {
     let halves = compound::split(weight);
     2 * (fixed::exact(halves.high, product) + (fixed::exact(halves.low, product) >> 15))

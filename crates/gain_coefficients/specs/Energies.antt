@@ -2,7 +2,7 @@
 -- Qua_gain's coefficients, all on one scale.
 use Rattle.std.specs.Prelude.{cond, List, [], ◌∷◌, map, ℤ, pos, negsuc}
 use Rattle.std.specs.Int.Signed.{lt_z}
-use Rattle.fixed.specs.Operators.{add, sub, negate, extract-h, L-deposit-h, L-shl, shl, norm-l}
+use Rattle.fixed.specs.Operators.{add, sub, negate, extract_h, L_deposit_h, L_shl, shl, norm_l}
 use Rattle.gain_pitch.specs.declared.PitchGain.{PitchGain}
 use Rattle.gain_sums.specs.Sums.{sum}
 use Rattle.gain_coefficients.specs.declared.Coefficient.{Coefficient}
@@ -13,22 +13,22 @@ coefficient fraction exponent = record { fraction = fraction; exponent = exponen
 
 -- a sum brought up by norm_l, its high word, and the bias less the places. 01's wrong turn is 'rounding where `energy_coefficients` only shifts'
 unfoldable pub cut : ℤ → ℤ → Coefficient
-cut s bias = coefficient (extract-h (L-shl s (pos (norm-l s)))) (sub bias (pos (norm-l s)))
+cut s bias = coefficient (extract_h (L_shl s (pos (norm_l s)))) (sub bias (pos (norm_l s)))
 
 abbrev pub negated : Coefficient → Coefficient
 negated c = coefficient (negate c.fraction) c.exponent
 
 -- g_coeff: <y1, y1>, and -2 <xn, y1> with its exponent one up
-abbrev pub yy-coefficient : PitchGain → Coefficient
-yy-coefficient g = coefficient g.yy g.yy_exponent
+abbrev pub yy_coefficient : PitchGain → Coefficient
+yy_coefficient g = coefficient g.yy g.yy_exponent
 
-abbrev pub xy-coefficient : PitchGain → Coefficient
-xy-coefficient g = coefficient (negate g.xy) (add g.xy_exponent (pos 1))
+abbrev pub xy_coefficient : PitchGain → Coefficient
+xy_coefficient g = coefficient (negate g.xy) (add g.xy_exponent (pos 1))
 
 -- <y1, y1>, -2 <xn, y1>, <y2, y2>, -2 <xn, y2>, 2 <y1, y2>: the biases are 15 - 18, 15 - 9 + 1 and 15 - 9 + 1
-unfoldable pub calc-filt-energies : List ℤ → List ℤ → List ℤ → PitchGain → List Coefficient
-calc-filt-energies xs ys zs g =
-    yy-coefficient g ∷ xy-coefficient g ∷ cut (sum zs zs 40) (negsuc 2) ∷ negated (cut (sum xs zs 40) (pos 7))
+unfoldable pub calc_filt_energies : List ℤ → List ℤ → List ℤ → PitchGain → List Coefficient
+calc_filt_energies xs ys zs g =
+    yy_coefficient g ∷ xy_coefficient g ∷ cut (sum zs zs 40) (negsuc 2) ∷ negated (cut (sum xs zs 40) (pos 7))
     ∷ cut (sum ys zs 40) (pos 7) ∷ []
 
 -- ---- Qua_gain, 'determine scaling of the coefficients'
@@ -41,25 +41,25 @@ abbrev pub raised : Coefficient → ℤ → Coefficient
 raised c scale = coefficient c.fraction (add c.exponent scale)
 
 -- 'exp_max'
-unfoldable pub exp-max : List Coefficient → List ℤ → List Coefficient
-exp-max [] ss = []
-exp-max (c ∷ cs) [] = []
-exp-max (c ∷ cs) (s ∷ ss) = raised c s ∷ exp-max cs ss
+unfoldable pub exp_max : List Coefficient → List ℤ → List Coefficient
+exp_max [] ss = []
+exp_max (c ∷ cs) [] = []
+exp_max (c ∷ cs) (s ∷ ss) = raised c s ∷ exp_max cs ss
 
 -- 'e_max': the greatest exponent
-unfoldable pub e-max : ℤ → List Coefficient → ℤ
-e-max m [] = m
-e-max m (c ∷ cs) = e-max (cond (lt_z m c.exponent) c.exponent m) cs
+unfoldable pub e_max : ℤ → List Coefficient → ℤ
+e_max m [] = m
+e_max m (c ∷ cs) = e_max (cond (lt_z m c.exponent) c.exponent m) cs
 
 -- 'L_tmp = L_deposit_h (frac_coeff[i]); L_tmp = L_shr (L_tmp, sub (e_max, exp_max[i]))': a shift to the right by a count is one to the left by its negative
 unfoldable pub levelled : ℤ → Coefficient → ℤ
-levelled top c = L-shl (L-deposit-h c.fraction) (sub c.exponent top)
+levelled top c = L_shl (L_deposit_h c.fraction) (sub c.exponent top)
 
 -- 'e_max = add (e_max, 1)', which leaves room for one carry
-unfoldable pub on-one-scale : List Coefficient → List ℤ
-on-one-scale [] = []
-on-one-scale (c ∷ cs) = map (levelled (add (e-max c.exponent cs) (pos 1))) (c ∷ cs)
+unfoldable pub on_one_scale : List Coefficient → List ℤ
+on_one_scale [] = []
+on_one_scale (c ∷ cs) = map (levelled (add (e_max c.exponent cs) (pos 1))) (c ∷ cs)
 
 -- the five coefficients, for the innovation's eighths
 unfoldable pub coefficients : List ℤ → List ℤ → List ℤ → PitchGain → ℤ → List ℤ
-coefficients xs ys zs g code = on-one-scale (exp-max (calc-filt-energies xs ys zs g) (scales code))
+coefficients xs ys zs g code = on_one_scale (exp_max (calc_filt_energies xs ys zs g) (scales code))

@@ -1,7 +1,7 @@
 -- One name for an `unfolding` line that computes the definitions of this crate.
-use Rattle.gain_pitch.specs.Opens.{pitch-gain-opens}
-use Rattle.gain_coefficients.specs.Energies.{cut, calc-filt-energies, exp-max, e-max, levelled, on-one-scale, coefficients}
+use Rattle.gain_pitch.specs.Opens.{pitch_gain_opens}
+use Rattle.gain_coefficients.specs.Energies.{cut, calc_filt_energies, exp_max, e_max, levelled, on_one_scale, coefficients}
 
-unfoldable pub coefficients-opens : Unit {0}
-unfolding pitch-gain-opens cut calc-filt-energies exp-max e-max levelled on-one-scale coefficients
-coefficients-opens = tt
+unfoldable pub coefficients_opens : Unit {0}
+unfolding pitch_gain_opens cut calc_filt_energies exp_max e_max levelled on_one_scale coefficients
+coefficients_opens = tt

@@ -4,7 +4,7 @@
 ghost use Rattle.std.specs.Prelude.{◌≡◌, cond, [], ◌∷◌};
 ghost use Rattle.std.specs.Int.Signed.{lt_z};
 ghost use Rattle.gain_sums.specs.Sums.{sum};
-ghost use Rattle.gain_coefficients.specs.Energies.{cut, negated, raised, yy-coefficient, xy-coefficient, levelled, on-one-scale, coefficients};
+ghost use Rattle.gain_coefficients.specs.Energies.{cut, negated, raised, yy_coefficient, xy_coefficient, levelled, on_one_scale, coefficients};
 
 use gain_pitch::PitchGain;
 
@@ -78,7 +78,7 @@ fn raised(c: Coefficient, scale: i16) -> Coefficient
 }
 
 fn adaptive_energy(gain: PitchGain) -> Coefficient
-    ensures { result ≡ yy-coefficient gain }
+    ensures { result ≡ yy_coefficient gain }
 {
     Coefficient {
         fraction: gain.yy,
@@ -87,7 +87,7 @@ fn adaptive_energy(gain: PitchGain) -> Coefficient
 }
 
 fn adaptive_correlation(gain: PitchGain) -> Coefficient
-    ensures { result ≡ xy-coefficient gain }
+    ensures { result ≡ xy_coefficient gain }
 {
     Coefficient {
         fraction: fixed::negate16(gain.xy),
@@ -102,7 +102,7 @@ fn on_one_scale(
     xz: Coefficient,
     yz: Coefficient,
 ) -> [i32; 5]
-    ensures { result ≡ on-one-scale (yy ∷ xy ∷ zz ∷ xz ∷ yz ∷ []) }
+    ensures { result ≡ on_one_scale (yy ∷ xy ∷ zz ∷ xz ∷ yz ∷ []) }
 {
     let two = greater(yy.exponent, xy.exponent);
     let three = greater(two, zz.exponent);

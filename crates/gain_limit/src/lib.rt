@@ -2,7 +2,7 @@
 #![tactic(auto)]
 
 ghost use Rattle.std.specs.Prelude.{◌≡◌};
-ghost use Rattle.gain_limit.specs.Limits.{limit-number, gp-limit, told-limit, limit-choice};
+ghost use Rattle.gain_limit.specs.Limits.{limit_number, gp_limit, told_limit, limit_choice};
 
 use refusal::Refusal;
 
@@ -22,7 +22,7 @@ impl GainLimit {
     pub const RESONANCE_Q14: i16 = 15565;
 
     pub fn try_new(choice: u8) -> LimitChoice
-        ensures { told-limit result ≡ limit-choice choice }
+        ensures { told_limit result ≡ limit_choice choice }
     {
         match choice {
             0 => LimitChoice::Limit(GainLimit::Unrestricted),
@@ -32,7 +32,7 @@ impl GainLimit {
     }
 
     pub fn pitch_q14(self) -> i16
-        ensures { result ≡ gp-limit (limit-number self) }
+        ensures { result ≡ gp_limit (limit_number self) }
     {
         match self {
             GainLimit::Unrestricted => 32767,

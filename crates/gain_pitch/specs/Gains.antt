@@ -2,11 +2,11 @@
 use Rattle.std.specs.Prelude.{cond, List, [], ◌∷◌, ℤ, pos, negsuc}
 use Rattle.std.specs.Int.Signed.{lt_z}
 use Rattle.fixed.specs.declared.Flagged.{Flagged}
-use Rattle.fixed.specs.Operators.{sub, round, L-shl, shl, norm-l, div-s}
+use Rattle.fixed.specs.Operators.{sub, round, L_shl, shl, norm_l, div_s}
 use Rattle.fixed.specs.Lists.{shifted}
 use Rattle.refusal.specs.Refused.{Told, values, refused, turned_down}
-use Rattle.refusal.specs.Checks.{checked, length-is}
-use Rattle.gain_sums.specs.Sums.{flagged-sum}
+use Rattle.refusal.specs.Checks.{checked, length_is}
+use Rattle.gain_sums.specs.Sums.{flagged_sum}
 use Rattle.gain_pitch.specs.declared.ScaledWord.{ScaledWord}
 use Rattle.gain_pitch.specs.declared.PitchGain.{PitchGain}
 use Rattle.gain_pitch.specs.declared.FoundGain.{FoundGain}
@@ -15,11 +15,11 @@ use Rattle.gain_pitch.specs.declared.FoundGain.TheVariants.{Gain, Refused}
 -- ---- a long with its highest bit brought up
 -- 'exp_yy = norm_l (s); yy = round (L_shl (s, exp_yy)); exp_yy = sub (exp_yy, 4)'; nothing is subtracted where the sum did not overflow
 unfoldable pub normalized : ℤ → ℤ → ScaledWord
-normalized s lowered = record { word = round (L-shl s (pos (norm-l s))); exponent = sub (pos (norm-l s)) lowered }
+normalized s lowered = record { word = round (L_shl s (pos (norm_l s))); exponent = sub (pos (norm_l s)) lowered }
 
 -- 'if (Overflow == 0)': a sum, else another one, its exponent lowered
-unfoldable pub unless-overflow : Flagged → Flagged → ℤ → ScaledWord
-unless-overflow s t lowered = cond s.overflow (normalized t.value lowered) (normalized s.value (pos 0))
+unfoldable pub unless_overflow : Flagged → Flagged → ℤ → ScaledWord
+unless_overflow s t lowered = cond s.overflow (normalized t.value lowered) (normalized s.value (pos 0))
 
 -- 'divide "y1[]" by 4 to avoid overflow'
 abbrev pub quarters : List ℤ → List ℤ
@@ -27,15 +27,15 @@ quarters ys = shifted ys (negsuc 1) 40
 
 -- the scalar products <y1[], y1[]> and <xn[], y1[]>
 abbrev pub energy : List ℤ → ScaledWord
-energy ys = unless-overflow (flagged-sum ys ys 40) (flagged-sum (quarters ys) (quarters ys) 40) (pos 4)
+energy ys = unless_overflow (flagged_sum ys ys 40) (flagged_sum (quarters ys) (quarters ys) 40) (pos 4)
 
 abbrev pub correlation : List ℤ → List ℤ → ScaledWord
-correlation xs ys = unless-overflow (flagged-sum xs ys 40) (flagged-sum xs (quarters ys) 40) (pos 2)
+correlation xs ys = unless_overflow (flagged_sum xs ys 40) (flagged_sum xs (quarters ys) 40) (pos 2)
 
 -- ---- the gain
 -- 'xy = shr (xy, 1); gain = div_s (xy, yy); gain = shr (gain, exp_xy - exp_yy)': a shift to the right by a count is one to the left by its negative
 unfoldable pub quotient : ScaledWord → ScaledWord → ℤ
-quotient xy yy = shl (div-s (shl xy.word (negsuc 0)) yy.word) (sub yy.exponent xy.exponent)
+quotient xy yy = shl (div_s (shl xy.word (negsuc 0)) yy.word) (sub yy.exponent xy.exponent)
 
 -- 01: '0 for normalised xy below 4, else at most 19661'
 unfoldable pub gain : ScaledWord → ScaledWord → ℤ
@@ -52,15 +52,15 @@ coefficients xy yy =
       xy_exponent = sub (pos 15) xy.exponent;
     }
 
-unfoldable pub G-pitch : List ℤ → List ℤ → PitchGain
-G-pitch xs ys = coefficients (correlation xs ys) (energy ys)
+unfoldable pub G_pitch : List ℤ → List ℤ → PitchGain
+G_pitch xs ys = coefficients (correlation xs ys) (energy ys)
 
 -- ---- the entry
 -- an answer as 01 gives it
-abbrev pub told-gain : FoundGain → Told PitchGain
-told-gain (Gain g) = values g
-told-gain (Refused r) = turned_down r
+abbrev pub told_gain : FoundGain → Told PitchGain
+told_gain (Gain g) = values g
+told_gain (Refused r) = turned_down r
 
 -- `pitch_gain`: 01, number 1
-unfoldable pub pitch-gain : List ℤ → List ℤ → Told PitchGain
-pitch-gain xs ys = checked (length-is 40 xs ∷ length-is 40 ys ∷ []) refused (values (G-pitch xs ys))
+unfoldable pub pitch_gain : List ℤ → List ℤ → Told PitchGain
+pitch_gain xs ys = checked (length_is 40 xs ∷ length_is 40 ys ∷ []) refused (values (G_pitch xs ys))

@@ -2,7 +2,7 @@
 #![tactic(auto)]
 
 ghost use Rattle.std.specs.Prelude.{◌≡◌};
-ghost use Rattle.gain_pitch.specs.Gains.{normalized, energy, correlation, gain, G-pitch, told-gain, pitch-gain};
+ghost use Rattle.gain_pitch.specs.Gains.{normalized, energy, correlation, gain, G_pitch, told_gain, pitch_gain};
 
 use refusal::Refusal;
 
@@ -32,7 +32,7 @@ pub enum FoundGain {
 }
 
 pub fn pitch_gain(target: &[i16], adaptive: &[i16]) -> FoundGain
-    ensures { told-gain result ≡ pitch-gain target.now adaptive.now }
+    ensures { told_gain result ≡ pitch_gain target.now adaptive.now }
 {
     if target.len() != SUBFRAME_SAMPLES {
         return FoundGain::Refused(Refusal::Length(target.len()));
@@ -44,7 +44,7 @@ pub fn pitch_gain(target: &[i16], adaptive: &[i16]) -> FoundGain
 }
 
 pub fn g_pitch(target: &[i16; 40], adaptive: &[i16; 40]) -> PitchGain
-    ensures { result ≡ G-pitch target.now adaptive.now }
+    ensures { result ≡ G_pitch target.now adaptive.now }
 {
     let yy = energy(adaptive);
     let xy = correlation(target, adaptive);

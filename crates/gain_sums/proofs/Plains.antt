@@ -9,11 +9,11 @@ use lib.Signed.{mag}
 use mir.Syntax.{w32}
 use mir.Val.{SFits}
 use borrow.Author.Tests.{lt-leb}
-use Rattle.fixed.specs.Operators.{L-add, L-mult, L-mac-overflow, beyond}
-use Rattle.fixed.specs.Lists.{at, L-sum}
-use Rattle.fixed.proofs.Bounds.{abs-add, abs-mul, fits-abs}
-use Rattle.fixed.proofs.Clips.{clip-id}
-use Rattle.sums.proofs.Plain.{double-add, plain-mult}
+use Rattle.fixed.specs.Operators.{L_add, L_mult, L_mac_overflow, beyond}
+use Rattle.fixed.specs.Lists.{at, L_sum}
+use Rattle.fixed.proofs.Bounds.{abs_add, abs_mul, fits_abs}
+use Rattle.fixed.proofs.Clips.{clip_id}
+use Rattle.sums.proofs.Plain.{double_add, plain_mult}
 use Rattle.sums.specs.Plain.{plain}
 use Rattle.gain_sums.specs.Sums.{sum, overflow}
 
@@ -31,46 +31,46 @@ module _ (xs ys : List ℤ) where
   whole i = pos 2 *ℤ half i +ℤ pos 1
 
   module _ (q : Quiet) where
-    half-below : (i : ℕ) → i ≤ 40 → nat_abs (half i) ≤ i * 26843545
+    half_below : (i : ℕ) → i ≤ 40 → nat_abs (half i) ≤ i * 26843545
     unfolding plain
-    half-below zero h = omega arith
-    half-below (suc n) h =
-        omega (arith, half-below n (omega arith), q n (omega arith), abs-add (half n) (at xs n *ℤ at ys n), abs-mul (at xs n) (at ys n))
+    half_below zero h = omega arith
+    half_below (suc n) h =
+        omega (arith, half_below n (omega arith), q n (omega arith), abs_add (half n) (at xs n *ℤ at ys n), abs_mul (at xs n) (at ys n))
 
-    pub half-fits : (i : ℕ) → i ≤ 40 → SFits w32 (half i)
-    half-fits i h = fits-abs w32 (half i) (omega (arith, half-below i h))
+    pub half_fits : (i : ℕ) → i ≤ 40 → SFits w32 (half i)
+    half_fits i h = fits_abs w32 (half i) (omega (arith, half_below i h))
 
-    pub twice-fits : (i : ℕ) → i ≤ 40 → SFits w32 (pos 2 *ℤ half i)
-    twice-fits i h = fits-abs w32 (pos 2 *ℤ half i) (omega (arith, half-below i h, abs-mul (pos 2) (half i)))
+    pub twice_fits : (i : ℕ) → i ≤ 40 → SFits w32 (pos 2 *ℤ half i)
+    twice_fits i h = fits_abs w32 (pos 2 *ℤ half i) (omega (arith, half_below i h, abs_mul (pos 2) (half i)))
 
-    pub whole-fits : (i : ℕ) → i ≤ 40 → SFits w32 (whole i)
-    whole-fits i h = fits-abs w32 (whole i) (omega (arith, half-below i h, abs-mul (pos 2) (half i), abs-add (pos 2 *ℤ half i) (pos 1)))
+    pub whole_fits : (i : ℕ) → i ≤ 40 → SFits w32 (whole i)
+    whole_fits i h = fits_abs w32 (whole i) (omega (arith, half_below i h, abs_mul (pos 2) (half i), abs_add (pos 2 *ℤ half i) (pos 1)))
 
     -- one product more
-    product_is : (n : ℕ) → n < 40 → L-mult (at xs n) (at ys n) ≡ pos 2 *ℤ (at xs n *ℤ at ys n)
-    product_is n h = plain-mult (at xs n) (at ys n) (omega (arith, q n h, abs-mul (at xs n) (at ys n)))
+    product_is : (n : ℕ) → n < 40 → L_mult (at xs n) (at ys n) ≡ pos 2 *ℤ (at xs n *ℤ at ys n)
+    product_is n h = plain_mult (at xs n) (at ys n) (omega (arith, q n h, abs_mul (at xs n) (at ys n)))
 
-    whole-more : (n : ℕ) → whole n +ℤ pos 2 *ℤ (at xs n *ℤ at ys n) ≡ whole (suc n)
+    whole_more : (n : ℕ) → whole n +ℤ pos 2 *ℤ (at xs n *ℤ at ys n) ≡ whole (suc n)
     unfolding plain
-    whole-more n =
+    whole_more n =
         let a = pos 2 *ℤ half n in
         let b = pos 2 *ℤ (at xs n *ℤ at ys n) in
         +ℤ_assoc a (pos 1) b ∙ ap (λ (z : ℤ). a +ℤ z) (+ℤ_comm (pos 1) b) ∙ sym (+ℤ_assoc a b (pos 1))
-        ∙ ap (λ (z : ℤ). z +ℤ pos 1) (sym (double-add (half n) (at xs n *ℤ at ys n)))
+        ∙ ap (λ (z : ℤ). z +ℤ pos 1) (sym (double_add (half n) (at xs n *ℤ at ys n)))
 
     pub sum_is : (i : ℕ) → i ≤ 40 → sum xs ys i ≡ whole i
-    unfolding sum L-sum L-add plain
+    unfolding sum L_sum L_add plain
     sum_is zero h = refl
     sum_is (suc n) h =
-        rw (sum_is n (omega arith), product_is n h, whole-more n) (clip-id 31 (whole (suc n)) (whole-fits (suc n) h).sfits)
+        rw (sum_is n (omega arith), product_is n h, whole_more n) (clip_id 31 (whole (suc n)) (whole_fits (suc n) h).sfits)
 
     within : (z : ℤ) → SFits w32 z → beyond 31 z ≡ false
     within z f = lt-leb (2 ^ 31) (mag z) f.sfits
 
     pub no_overflow : (i : ℕ) → i ≤ 40 → overflow xs ys i ≡ false
-    unfolding overflow L-mac-overflow
+    unfolding overflow L_mac_overflow
     no_overflow zero h = refl
     no_overflow (suc n) h =
         let p : ℤ = at xs n *ℤ at ys n in
-        let f : SFits w32 (pos 2 *ℤ p) = fits-abs w32 (pos 2 *ℤ p) (omega (arith, q n h, abs-mul (at xs n) (at ys n), abs-mul (pos 2) p)) in
-        rw (no_overflow n (omega arith), within (pos 2 *ℤ p) f, sum_is n (omega arith), product_is n h, whole-more n) (within (whole (suc n)) (whole-fits (suc n) h))
+        let f : SFits w32 (pos 2 *ℤ p) = fits_abs w32 (pos 2 *ℤ p) (omega (arith, q n h, abs_mul (at xs n) (at ys n), abs_mul (pos 2) p)) in
+        rw (no_overflow n (omega arith), within (pos 2 *ℤ p) f, sum_is n (omega arith), product_is n h, whole_more n) (within (whole (suc n)) (whole_fits (suc n) h))

@@ -1,7 +1,7 @@
 -- One name for an `unfolding` line that computes the definitions of this crate.
-use Rattle.fixed.specs.Opens.{fixed-opens}
-use Rattle.gain_sums.specs.Sums.{sum, overflow, flagged-sum}
+use Rattle.fixed.specs.Opens.{fixed_opens}
+use Rattle.gain_sums.specs.Sums.{sum, overflow, flagged_sum}
 
-unfoldable pub gain-sums-opens : Unit {0}
-unfolding fixed-opens sum overflow flagged-sum
-gain-sums-opens = tt
+unfoldable pub gain_sums_opens : Unit {0}
+unfolding fixed_opens sum overflow flagged_sum
+gain_sums_opens = tt

@@ -4,11 +4,11 @@
 
 ghost use Rattle.std.specs.Prelude.{true, false, ◌≡◌, ℕ, ◌*◌, ◌<◌, ◌≤◌, nat_abs};
 ghost use Rattle.fixed.specs.Lists.{at};
-ghost use Rattle.gain_sums.specs.Sums.{sum, overflow, flagged-sum};
+ghost use Rattle.gain_sums.specs.Sums.{sum, overflow, flagged_sum};
 
 // Of a list with itself: no term is negative, so one test of the whole tells.
 pub fn square_sum(words: &[i16; 40]) -> fixed::Flagged
-    ensures { result ≡ flagged-sum words.now words.now 40 }
+    ensures { result ≡ flagged_sum words.now words.now 40 }
 {
     let energy = sums::energy40(words);
     fixed::Flagged {
@@ -18,7 +18,7 @@ pub fn square_sum(words: &[i16; 40]) -> fixed::Flagged
 }
 
 pub fn dot(left: &[i16; 40], right: &[i16; 40]) -> fixed::Flagged
-    ensures { result ≡ flagged-sum left.now right.now 40 }
+    ensures { result ≡ flagged_sum left.now right.now 40 }
 {
     if are_quiet(left, right) {
         return fixed::Flagged {
@@ -41,7 +41,7 @@ pub fn dot_value(left: &[i16; 40], right: &[i16; 40]) -> i32
 
 // Both without a look whether a step can be clipped.
 pub fn clipped(left: &[i16; 40], right: &[i16; 40]) -> fixed::Flagged
-    ensures { result ≡ flagged-sum left.now right.now 40 }
+    ensures { result ≡ flagged_sum left.now right.now 40 }
 {
     let mut value: i32 = 1;
     let mut overflow = false;

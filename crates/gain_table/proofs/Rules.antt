@@ -15,16 +15,16 @@ same : Bool → Bool → Bool
 same true b = b
 same false b = cond b false true
 
-same-is : (a b : Bool) → T (same a b) → a ≡ b
+same_is : (a b : Bool) → T (same a b) → a ≡ b
 unfolding same
-same-is true true t = refl
-same-is true false t = absurd t
-same-is false true t = absurd t
-same-is false false t = refl
+same_is true true t = refl
+same_is true false t = absurd t
+same_is false true t = absurd t
+same_is false false t = refl
 
-true-is : (a : Bool) → T a → a ≡ true
-true-is true t = refl
-true-is false t = absurd t
+true_is : (a : Bool) → T a → a ≡ true
+true_is true t = refl
+true_is false t = absurd t
 
 ruled : ℕ → List ℤ → Bool
 ruled i row = both (same (le_z (at row 0) (pos 15565)) (ltb i 96)) (both (le_z (pos 662) (at row 1)) (le_z (at row 1) (pos 32764)))
@@ -40,9 +40,9 @@ rule i h =
     let low = both_left (same (le_z (at row 0) (pos 15565)) (ltb i 96)) _ (tested i h) in
     let rest = both_right (same (le_z (at row 0) (pos 15565)) (ltb i 96)) _ (tested i h) in
     record {
-      pitch-limit = same-is _ _ low;
-      correction-from = true-is _ (both_left (le_z (pos 662) (at row 1)) _ rest);
-      correction-to = true-is _ (both_right (le_z (pos 662) (at row 1)) _ rest);
+      pitch_limit = same_is _ _ low;
+      correction_from = true_is _ (both_left (le_z (pos 662) (at row 1)) _ rest);
+      correction_to = true_is _ (both_right (le_z (pos 662) (at row 1)) _ rest);
     }
 
 -- no pitch and no correction is -32768
@@ -53,13 +53,13 @@ all_small : (i : ℕ) → i < 128 → T (small i (get_or table i []))
 unfolding small table
 all_small i h = tested_at [] small table tt i h
 
-pub pitch-small : (i : ℕ) → i < 128 → nat_abs (pitch i) ≤ 32767
+pub pitch_small : (i : ℕ) → i < 128 → nat_abs (pitch i) ≤ 32767
 unfolding small
-pitch-small i h = leb→le (nat_abs (pitch i)) 32767 (both_left (leb (nat_abs (pitch i)) 32767) _ (all_small i h))
+pitch_small i h = leb→le (nat_abs (pitch i)) 32767 (both_left (leb (nat_abs (pitch i)) 32767) _ (all_small i h))
 
-pub correction-small : (i : ℕ) → i < 128 → nat_abs (correction i) ≤ 32767
+pub correction_small : (i : ℕ) → i < 128 → nat_abs (correction i) ≤ 32767
 unfolding small
-correction-small i h = leb→le (nat_abs (correction i)) 32767 (both_right (leb (nat_abs (pitch i)) 32767) _ (all_small i h))
+correction_small i h = leb→le (nat_abs (correction i)) 32767 (both_right (leb (nat_abs (pitch i)) 32767) _ (all_small i h))
 
 -- past the last row there is none
 pub past_end : (i : ℕ) → 128 ≤ i → get_or table i [] ≡ []

@@ -163,6 +163,6 @@ corrections = column 1
 
 -- 01: 'rows 0 to 95 have pitch at most 15565, rows 96 to 127 above; every correction lies in 662 to 32764'
 pub record Ruled (i : ℕ) : Type 0 where
-  pub pitch-limit : le_z (pitch i) (pos 15565) ≡ ltb i 96
-  pub correction-from : le_z (pos 662) (correction i) ≡ true
-  pub correction-to : le_z (correction i) (pos 32764) ≡ true
+  pub pitch_limit : le_z (pitch i) (pos 15565) ≡ ltb i 96
+  pub correction_from : le_z (pos 662) (correction i) ≡ true
+  pub correction_to : le_z (correction i) (pos 32764) ≡ true

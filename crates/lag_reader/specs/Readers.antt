@@ -1,34 +1,34 @@
 -- The lag reader of 01.
 use Rattle.std.specs.Prelude.{◌||◌, [], ◌∷◌, ℕ, leb, pos}
 use Rattle.refusal.specs.Refused.{Told, values, turned_down}
-use Rattle.refusal.specs.Checks.{Check, Outcome, unless-refused, known-subframe, in_order}
+use Rattle.refusal.specs.Checks.{Check, Outcome, unless_refused, known_subframe, in_order}
 use Rattle.pitch.specs.declared.Subframe.{Subframe}
 use Rattle.pitch.specs.declared.Subframe.TheVariants.{One}
 use Rattle.pitch.specs.declared.PitchLag.{PitchLag}
 use Rattle.lag_reader.specs.declared.Reader.{Reader}
 use Rattle.lag_reader.specs.declared.Reading.{Reading}
 use Rattle.lag_reader.specs.declared.Reading.TheVariants.{Lag, Refused}
-use Rattle.pitch.specs.Kinds.{fresh-lag, subframe-number, absolute, following}
-use Rattle.pitch.specs.Indexes.{lag-of}
+use Rattle.pitch.specs.Kinds.{fresh_lag, subframe_number, absolute, following}
+use Rattle.pitch.specs.Indexes.{lag_of}
 
 -- 'Fresh searcher and fresh reader: previous lag 40, expecting 1'
-abbrev pub fresh-reader : Reader
-fresh-reader = record { previous = fresh-lag; next = One }
+abbrev pub fresh_reader : Reader
+fresh_reader = record { previous = fresh_lag; next = One }
 
 -- an answer as 01 gives it
-abbrev pub told-reading : Reading → Told PitchLag
-told-reading (Lag l) = values l
-told-reading (Refused r) = turned_down r
+abbrev pub told_reading : Reading → Told PitchLag
+told_reading (Lag l) = values l
+told_reading (Refused r) = turned_down r
 
 -- 01, number 5: a relative index is at most 31
-abbrev pub relative-index-fits : Subframe → ℕ → Check
-relative-index-fits s index = record { passes = absolute s || leb index 31; number = 5; detail = pos index }
+abbrev pub relative_index_fits : Subframe → ℕ → Check
+relative_index_fits s index = record { passes = absolute s || leb index 31; number = 5; detail = pos index }
 
 -- what a reading answers, and the reader after it
 unfoldable pub read : Reader → ℕ → ℕ → Outcome PitchLag Reader
 read r n index =
-    unless-refused (known-subframe n ∷ in_order (subframe-number r.next) n ∷ relative-index-fits r.next index ∷ []) r
+    unless_refused (known_subframe n ∷ in_order (subframe_number r.next) n ∷ relative_index_fits r.next index ∷ []) r
     (record {
-      answer = values (lag-of r.next r.previous.samples index);
-      after = record { previous = lag-of r.next r.previous.samples index; next = following r.next };
+      answer = values (lag_of r.next r.previous.samples index);
+      after = record { previous = lag_of r.next r.previous.samples index; next = following r.next };
     })

@@ -4,7 +4,7 @@
 ghost use Rattle.std.specs.Prelude.{◌≡◌};
 ghost use Rattle.refusal.specs.Refused.{values, turned_down};
 ghost use Rattle.pitch.specs.Kinds.{following};
-ghost use Rattle.lag_reader.specs.Readers.{fresh-reader, told-reading, read};
+ghost use Rattle.lag_reader.specs.Readers.{fresh_reader, told_reading, read};
 
 use pitch::{PitchLag, Subframe};
 use refusal::Refusal;
@@ -33,7 +33,7 @@ pub struct ReaderStep {
 
 impl Reader {
     pub fn fresh() -> Self
-        ensures { result ≡ fresh-reader }
+        ensures { result ≡ fresh_reader }
     {
         let previous = pitch::fresh_lag();
         Reader {
@@ -43,13 +43,13 @@ impl Reader {
     }
 
     pub fn reset(self) -> Self
-        ensures { result ≡ fresh-reader }
+        ensures { result ≡ fresh_reader }
     {
         Reader::fresh()
     }
 
     pub fn read(self, subframe: u8, index: u8) -> ReaderStep
-        ensures { (told-reading result.reading ≡ (read self subframe index).answer) × (result.reader ≡ (read self subframe index).after) }
+        ensures { (told_reading result.reading ≡ (read self subframe index).answer) × (result.reader ≡ (read self subframe index).after) }
     {
         if subframe < 1 {
             return self.refused(Refusal::Subframe(subframe));
@@ -68,7 +68,7 @@ impl Reader {
     }
 
     fn refused(self, refusal: Refusal) -> ReaderStep
-        ensures { (told-reading result.reading ≡ turned_down refusal) × (result.reader ≡ self) }
+        ensures { (told_reading result.reading ≡ turned_down refusal) × (result.reader ≡ self) }
     {
         ReaderStep {
             reading: Reading::Refused(refusal),
@@ -77,7 +77,7 @@ impl Reader {
     }
 
     fn taken(self, lag: PitchLag) -> ReaderStep
-        ensures { (told-reading result.reading ≡ values lag) × (result.reader ≡ record { previous = lag; next = following self.next }) }
+        ensures { (told_reading result.reading ≡ values lag) × (result.reader ≡ record { previous = lag; next = following self.next }) }
     {
         let due = self.next;
         let next = due.next();

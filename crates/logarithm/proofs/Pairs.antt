@@ -6,19 +6,19 @@ use Prim.Native.Nat.{ℕ}
 use lib.Dec.{leb}
 use lib.IntN.{ℤ, pos}
 use Rattle.refusal.specs.Refused.{refused}
-use Rattle.refusal.specs.Checks.{Check, power-exponent, power-fraction}
+use Rattle.refusal.specs.Checks.{Check, power_exponent, power_fraction}
 use Rattle.refusal.proofs.Checkings.{given_by}
-use Rattle.refusal.proofs.Pairs.{by-exponent, by_fraction}
+use Rattle.refusal.proofs.Pairs.{by_exponent, by_fraction}
 use Rattle.logarithm.specs.Powers.{power, Pow2}
 
 module _ (exponent fraction : ℕ) (d : ℤ) where
   abbrev checks : List Check
-  checks = power-exponent exponent ∷ power-fraction fraction ∷ []
+  checks = power_exponent exponent ∷ power_fraction fraction ∷ []
 
-  pub refused-by-7 : Pow2 exponent fraction ≡ refused 7 d → (leb exponent 30 ≡ false) × (pos exponent ≡ d)
+  pub refused_by_7 : Pow2 exponent fraction ≡ refused 7 d → (leb exponent 30 ≡ false) × (pos exponent ≡ d)
   unfolding Pow2
-  refused-by-7 e = by-exponent (power-exponent exponent) refl fraction d (given_by (pos (power exponent fraction)) 7 d checks e)
+  refused_by_7 e = by_exponent (power_exponent exponent) refl fraction d (given_by (pos (power exponent fraction)) 7 d checks e)
 
-  pub refused-by-14 : Pow2 exponent fraction ≡ refused 14 d → (leb exponent 30 ≡ true) × (leb fraction 32767 ≡ false) × (pos fraction ≡ d)
+  pub refused_by_14 : Pow2 exponent fraction ≡ refused 14 d → (leb exponent 30 ≡ true) × (leb fraction 32767 ≡ false) × (pos fraction ≡ d)
   unfolding Pow2
-  refused-by-14 e = by_fraction (power-exponent exponent) refl fraction d (given_by (pos (power exponent fraction)) 14 d checks e)
+  refused_by_14 e = by_fraction (power_exponent exponent) refl fraction d (given_by (pos (power exponent fraction)) 14 d checks e)

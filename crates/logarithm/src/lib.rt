@@ -2,8 +2,8 @@
 #![tactic(auto)]
 
 ghost use Rattle.std.specs.Prelude.{◌≡◌, ◌<◌, ◌≤◌, ◌^◌, pos};
-ghost use Rattle.logarithm.specs.Logarithms.{Log2, log2-of};
-ghost use Rattle.logarithm.specs.Powers.{shr-r, power, told, Pow2};
+ghost use Rattle.logarithm.specs.Logarithms.{Log2, log2_of};
+ghost use Rattle.logarithm.specs.Powers.{shr_r, power, told, Pow2};
 
 use refusal::Refusal;
 
@@ -41,7 +41,7 @@ pub fn log2(value: i32) -> Logarithm
 
 fn positive_log2(u: u32) -> Logarithm
     requires { (0 < u) × (u < 2 ^ 31) }
-    ensures { result ≡ log2-of u }
+    ensures { result ≡ log2_of u }
 {
     let table = LOG2_TABLE;
     let shift = u32::leading_zeros(u) - 1;
@@ -87,7 +87,7 @@ fn bounded_pow2(exponent: u8, fraction_q15: u16) -> i32
 
 fn rounded_shift(v: u32, n: u32) -> u32
     requires { n ≤ 30 }
-    ensures { result ≡ shr-r v n }
+    ensures { result ≡ shr_r v n }
 {
     if n == 0 {
         return v;

@@ -1,14 +1,14 @@
 -- The answers of the gain stage as the structs that cross to Rust and C.
 use Rattle.std.specs.Prelude.{false, pos}
-use Rattle.refusal.specs.Refused.{Told, values, refused, sign-magnitude}
+use Rattle.refusal.specs.Refused.{Told, values, refused, sign_magnitude}
 use Rattle.gain_pitch.specs.declared.PitchGain.{PitchGain}
 use Rattle.gain.specs.declared.QuantizedGain.{QuantizedGain}
 use Rattle.mr74.specs.declared.gain_row.PitchGainAnswer.{PitchGainAnswer}
 use Rattle.mr74.specs.declared.gain_row.GainAnswer.{GainAnswer}
 
 -- number 0 and the five numbers, or a refusal's number and detail and zeros
-abbrev pub pitch-gain-answer : Told PitchGain → PitchGainAnswer
-pitch-gain-answer (values g) =
+abbrev pub pitch_gain_answer : Told PitchGain → PitchGainAnswer
+pitch_gain_answer (values g) =
     record {
       number = 0;
       magnitude = 0;
@@ -18,10 +18,10 @@ pitch-gain-answer (values g) =
       xy = g.xy;
       xy_exponent = g.xy_exponent;
     }
-pitch-gain-answer (refused n d) =
+pitch_gain_answer (refused n d) =
     record {
       number = n;
-      magnitude = (sign-magnitude d).magnitude;
+      magnitude = (sign_magnitude d).magnitude;
       gain_q14 = pos 0;
       yy = pos 0;
       yy_exponent = pos 0;
@@ -30,8 +30,8 @@ pitch-gain-answer (refused n d) =
     }
 
 -- and the index with its row
-abbrev pub gain-answer : Told QuantizedGain → GainAnswer
-gain-answer (values q) =
+abbrev pub gain_answer : Told QuantizedGain → GainAnswer
+gain_answer (values q) =
     record {
       number = 0;
       negative = false;
@@ -41,11 +41,11 @@ gain-answer (values q) =
       correction_q12 = q.row.correction_q12;
       energy_q10 = q.row.energy_q10;
     }
-gain-answer (refused n d) =
+gain_answer (refused n d) =
     record {
       number = n;
-      negative = (sign-magnitude d).negative;
-      magnitude = (sign-magnitude d).magnitude;
+      negative = (sign_magnitude d).negative;
+      magnitude = (sign_magnitude d).magnitude;
       index = 0;
       pitch_q14 = pos 0;
       correction_q12 = pos 0;

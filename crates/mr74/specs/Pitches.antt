@@ -1,6 +1,6 @@
 -- The answers of the closed loop as the struct that crosses to Rust and C.
 use Rattle.std.specs.Prelude.{ℕ, ℤ, pos}
-use Rattle.refusal.specs.Refused.{Told, values, refused, put, sign-magnitude}
+use Rattle.refusal.specs.Refused.{Told, values, refused, put, sign_magnitude}
 use Rattle.refusal.specs.Checks.{Outcome}
 use Rattle.pitch.specs.declared.PitchLag.{PitchLag}
 use Rattle.pitch.specs.Kinds.{thirds}
@@ -9,8 +9,8 @@ use Rattle.pitch_state.specs.declared.PitchState.{PitchState}
 use Rattle.mr74.specs.declared.closed_loop.PitchAnswer.{PitchAnswer}
 
 -- number 0 and the values, then the state after
-abbrev pub accepted-pitch : ℕ → PitchLag → PitchState → PitchAnswer
-accepted-pitch index l after =
+abbrev pub accepted_pitch : ℕ → PitchLag → PitchState → PitchAnswer
+accepted_pitch index l after =
     record {
       number = 0;
       magnitude = 0;
@@ -23,11 +23,11 @@ accepted-pitch index l after =
     }
 
 -- a refusal's number and detail and zeros, then the state after
-abbrev pub refused-pitch : ℕ → ℤ → PitchState → PitchAnswer
-refused-pitch n d after =
+abbrev pub refused_pitch : ℕ → ℤ → PitchState → PitchAnswer
+refused_pitch n d after =
     record {
       number = n;
-      magnitude = (sign-magnitude d).magnitude;
+      magnitude = (sign_magnitude d).magnitude;
       index = 0;
       samples = 0;
       fraction = pos 0;
@@ -37,14 +37,14 @@ refused-pitch n d after =
     }
 
 -- an answer as 01 gives it, and the state after it, as the struct
-abbrev pub told-pitch : Told SearchedPitch → PitchState → PitchAnswer
-told-pitch (values p) after = accepted-pitch p.index p.lag after
-told-pitch (refused n d) after = refused-pitch n d after
+abbrev pub told_pitch : Told SearchedPitch → PitchState → PitchAnswer
+told_pitch (values p) after = accepted_pitch p.index p.lag after
+told_pitch (refused n d) after = refused_pitch n d after
 
 -- the search's
-unfoldable pub pitch-answer : Outcome SearchedPitch PitchState → PitchAnswer
-pitch-answer o = told-pitch o.answer o.after
+unfoldable pub pitch_answer : Outcome SearchedPitch PitchState → PitchAnswer
+pitch_answer o = told_pitch o.answer o.after
 
 -- the reader's: a reading has no index of its own, so 0 stands for it
-unfoldable pub reading-answer : Outcome PitchLag PitchState → PitchAnswer
-reading-answer o = told-pitch (put (λ l. record { lag = l; index = 0 }) o.answer) o.after
+unfoldable pub reading_answer : Outcome PitchLag PitchState → PitchAnswer
+reading_answer o = told_pitch (put (λ l. record { lag = l; index = 0 }) o.answer) o.after

@@ -2,10 +2,10 @@
 ghost use Rattle.std.specs.Prelude.{◌≡◌};
 ghost use Rattle.refusal.specs.Refused.{number, detail};
 ghost use Rattle.pitch_convolution.specs.Filters.{convolve};
-ghost use Rattle.pitch_state.specs.States.{fresh-state};
-ghost use Rattle.pitch_state.specs.Calls.{search-in-numbers, read-in-numbers};
-ghost use Rattle.mr74.specs.Lengths.{length-answer};
-ghost use Rattle.mr74.specs.Pitches.{accepted-pitch, refused-pitch, pitch-answer, reading-answer};
+ghost use Rattle.pitch_state.specs.States.{fresh_state};
+ghost use Rattle.pitch_state.specs.Calls.{search_in_numbers, read_in_numbers};
+ghost use Rattle.mr74.specs.Lengths.{length_answer};
+ghost use Rattle.mr74.specs.Pitches.{accepted_pitch, refused_pitch, pitch_answer, reading_answer};
 
 use crate::filtering::{LengthAnswer, length_refused};
 use lag_reader::Reading;
@@ -31,7 +31,7 @@ pub struct PitchAnswer {
 
 #[unsafe(no_mangle)]
 pub extern "C" fn mr74_fresh_pitch() -> PitchState
-    ensures { result ≡ fresh-state }
+    ensures { result ≡ fresh_state }
 {
     pitch_state::fresh()
 }
@@ -46,7 +46,7 @@ pub extern "C" fn mr74_pitch_search(
     second: u16,
     subframe: u8,
 ) -> PitchAnswer
-    ensures { result ≡ pitch-answer (search-in-numbers state excitation.now target.now impulse_q12.now first second subframe) }
+    ensures { result ≡ pitch_answer (search_in_numbers state excitation.now target.now impulse_q12.now first second subframe) }
 {
     let step = pitch_state::search(
         state,
@@ -70,7 +70,7 @@ pub extern "C" fn mr74_pitch_search(
 
 #[unsafe(no_mangle)]
 pub extern "C" fn mr74_read_lag(state: PitchState, subframe: u8, index: u8) -> PitchAnswer
-    ensures { result ≡ reading-answer (read-in-numbers state subframe index) }
+    ensures { result ≡ reading_answer (read_in_numbers state subframe index) }
 {
     let step = pitch_state::read(state, subframe, index);
     let reading = step.reading;
@@ -87,7 +87,7 @@ pub extern "C" fn mr74_convolve(
     impulse_q12: &[i16],
     output: &mut [i16],
 ) -> LengthAnswer
-    ensures { (result ≡ length-answer (convolve input.now impulse_q12.now output.old).answer)
+    ensures { (result ≡ length_answer (convolve input.now impulse_q12.now output.old).answer)
         × (output.new ≡ (convolve input.now impulse_q12.now output.old).after) }
 {
     match pitch_convolution::convolve(input, impulse_q12, output) {
@@ -100,7 +100,7 @@ pub extern "C" fn mr74_convolve(
 }
 
 fn accepted(index: u8, lag: PitchLag, after: PitchState) -> PitchAnswer
-    ensures { result ≡ accepted-pitch index lag after }
+    ensures { result ≡ accepted_pitch index lag after }
 {
     let fraction = lag.fraction;
     PitchAnswer {
@@ -116,7 +116,7 @@ fn accepted(index: u8, lag: PitchLag, after: PitchState) -> PitchAnswer
 }
 
 fn refused(refusal: Refusal, after: PitchState) -> PitchAnswer
-    ensures { result ≡ refused-pitch (number refusal) (detail refusal) after }
+    ensures { result ≡ refused_pitch (number refusal) (detail refusal) after }
 {
     let detail = refusal.detail();
     PitchAnswer {

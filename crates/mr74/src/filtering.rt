@@ -2,7 +2,7 @@
 ghost use Rattle.std.specs.Prelude.{◌≡◌};
 ghost use Rattle.refusal.specs.Refused.{turned_down};
 ghost use Rattle.encoder_filtering.specs.Subframes.{told, lists, residual, prepare};
-ghost use Rattle.mr74.specs.Lengths.{length-answer};
+ghost use Rattle.mr74.specs.Lengths.{length_answer};
 
 use encoder_filtering::Filtering;
 use refusal::Refusal;
@@ -26,7 +26,7 @@ pub extern "C" fn mr74_prepare(
     target_q0: &mut [i16],
     error_q0: &mut [i16],
 ) -> LengthAnswer
-    ensures { (result ≡ length-answer (prepare speech_q0.now coefficients_q12.now quantized_q12.now error_history_q0.now weighting_history_q0.now (lists residual_q0.old impulse_q12.old target_q0.old error_q0.old)).answer)
+    ensures { (result ≡ length_answer (prepare speech_q0.now coefficients_q12.now quantized_q12.now error_history_q0.now weighting_history_q0.now (lists residual_q0.old impulse_q12.old target_q0.old error_q0.old)).answer)
         × (lists residual_q0.new impulse_q12.new target_q0.new error_q0.new ≡ (prepare speech_q0.now coefficients_q12.now quantized_q12.now error_history_q0.now weighting_history_q0.now (lists residual_q0.old impulse_q12.old target_q0.old error_q0.old)).after) }
 {
     let answer = encoder_filtering::prepare(
@@ -49,7 +49,7 @@ pub extern "C" fn mr74_residual(
     samples: &[i16],
     residual_q0: &mut [i16],
 ) -> LengthAnswer
-    ensures { (result ≡ length-answer (residual coefficients_q12.now samples.now residual_q0.old).answer)
+    ensures { (result ≡ length_answer (residual coefficients_q12.now samples.now residual_q0.old).answer)
         × (residual_q0.new ≡ (residual coefficients_q12.now samples.now residual_q0.old).after) }
 {
     let answer = encoder_filtering::residual(coefficients_q12, samples, residual_q0);
@@ -57,7 +57,7 @@ pub extern "C" fn mr74_residual(
 }
 
 fn filtering_answer(answer: Filtering) -> LengthAnswer
-    ensures { result ≡ length-answer (told answer) }
+    ensures { result ≡ length_answer (told answer) }
 {
     match answer {
         Filtering::Written => LengthAnswer {
@@ -69,7 +69,7 @@ fn filtering_answer(answer: Filtering) -> LengthAnswer
 }
 
 pub(crate) fn length_refused(refusal: Refusal) -> LengthAnswer
-    ensures { result ≡ length-answer (turned_down refusal) }
+    ensures { result ≡ length_answer (turned_down refusal) }
 {
     let detail = refusal.detail();
     LengthAnswer {

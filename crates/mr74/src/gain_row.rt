@@ -1,8 +1,8 @@
 // The gain row. A limit is 0, unrestricted, or 1, resonance.
 ghost use Rattle.std.specs.Prelude.{◌≡◌};
-ghost use Rattle.gain_pitch.specs.Gains.{told-gain, pitch-gain};
-ghost use Rattle.gain.specs.Rows.{told-row, quantize};
-ghost use Rattle.mr74.specs.Gains.{pitch-gain-answer, gain-answer};
+ghost use Rattle.gain_pitch.specs.Gains.{told_gain, pitch_gain};
+ghost use Rattle.gain.specs.Rows.{told_row, quantize};
+ghost use Rattle.mr74.specs.Gains.{pitch_gain_answer, gain_answer};
 
 use gain::Quantized;
 use gain_pitch::FoundGain;
@@ -21,14 +21,14 @@ pub struct PitchGainAnswer {
 
 #[unsafe(no_mangle)]
 pub extern "C" fn mr74_pitch_gain(target: &[i16], adaptive: &[i16]) -> PitchGainAnswer
-    ensures { result ≡ pitch-gain-answer (pitch-gain target.now adaptive.now) }
+    ensures { result ≡ pitch_gain_answer (pitch_gain target.now adaptive.now) }
 {
     let answer = gain_pitch::pitch_gain(target, adaptive);
     pitch_gain_answer(answer)
 }
 
 fn pitch_gain_answer(answer: FoundGain) -> PitchGainAnswer
-    ensures { result ≡ pitch-gain-answer (told-gain answer) }
+    ensures { result ≡ pitch_gain_answer (told_gain answer) }
 {
     match answer {
         FoundGain::Gain(gain) => PitchGainAnswer {
@@ -76,7 +76,7 @@ pub extern "C" fn mr74_quantize(
     fraction: u16,
     limit: u8,
 ) -> GainAnswer
-    ensures { result ≡ gain-answer (quantize target.now adaptive.now filtered_innovation_q12.now exponent fraction limit) }
+    ensures { result ≡ gain_answer (quantize target.now adaptive.now filtered_innovation_q12.now exponent fraction limit) }
 {
     let answer = gain::quantize(
         target,
@@ -90,7 +90,7 @@ pub extern "C" fn mr74_quantize(
 }
 
 fn gain_answer(answer: Quantized) -> GainAnswer
-    ensures { result ≡ gain-answer (told-row answer) }
+    ensures { result ≡ gain_answer (told_row answer) }
 {
     match answer {
         Quantized::Row(chosen) => {

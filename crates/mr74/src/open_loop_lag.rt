@@ -1,7 +1,7 @@
 // The open loop. A detector crosses as its 143 old words, lent by the caller and updated there; fresh, they are all 0.
 ghost use Rattle.std.specs.Prelude.{◌≡◌};
-ghost use Rattle.pitch.specs.Kinds.{told-lag, try-lag};
-ghost use Rattle.mr74.specs.OpenLoops.{lag-answer, open-loop};
+ghost use Rattle.pitch.specs.Kinds.{told_lag, try_lag};
+ghost use Rattle.mr74.specs.OpenLoops.{lag_answer, open_loop};
 
 use open_loop::Detector;
 use pitch::{OpenLoop, OpenLoopLag};
@@ -17,8 +17,8 @@ pub struct OpenLoopAnswer {
 
 #[unsafe(no_mangle)]
 pub extern "C" fn mr74_open_loop(samples_q0: &[i16], history_q0: &mut [i16]) -> OpenLoopAnswer
-    ensures { (result ≡ lag-answer (open-loop samples_q0.now history_q0.old).answer)
-        × (history_q0.new ≡ (open-loop samples_q0.now history_q0.old).after) }
+    ensures { (result ≡ lag_answer (open_loop samples_q0.now history_q0.old).answer)
+        × (history_q0.new ≡ (open_loop samples_q0.now history_q0.old).after) }
 {
     if samples_q0.len() != 80 {
         return lag_answer(OpenLoop::Refused(Refusal::Length(samples_q0.len())));
@@ -41,14 +41,14 @@ pub extern "C" fn mr74_open_loop(samples_q0: &[i16], history_q0: &mut [i16]) -> 
 // A lag that the open loop may answer, 20 to 143.
 #[unsafe(no_mangle)]
 pub extern "C" fn mr74_open_loop_lag(samples: u16) -> OpenLoopAnswer
-    ensures { result ≡ lag-answer (try-lag samples) }
+    ensures { result ≡ lag_answer (try_lag samples) }
 {
     let lag = OpenLoopLag::try_new(samples);
     lag_answer(lag)
 }
 
 fn lag_answer(lag: OpenLoop) -> OpenLoopAnswer
-    ensures { result ≡ lag-answer (told-lag lag) }
+    ensures { result ≡ lag_answer (told_lag lag) }
 {
     match lag {
         OpenLoop::Lag(found) => OpenLoopAnswer {

@@ -2,7 +2,7 @@
 ghost use Rattle.std.specs.Prelude.{◌≡◌};
 ghost use Rattle.logarithm.specs.Logarithms.{Log2};
 ghost use Rattle.logarithm.specs.Powers.{Pow2};
-ghost use Rattle.mr74.specs.Powers.{power-answer};
+ghost use Rattle.mr74.specs.Powers.{power_answer};
 
 use logarithm::{Logarithm, Power};
 
@@ -24,7 +24,7 @@ pub extern "C" fn mr74_log2(value: i32) -> Logarithm
 
 #[unsafe(no_mangle)]
 pub extern "C" fn mr74_pow2(exponent: u8, fraction_q15: u16) -> PowerAnswer
-    ensures { result ≡ power-answer (Pow2 exponent fraction_q15) }
+    ensures { result ≡ power_answer (Pow2 exponent fraction_q15) }
 {
     match logarithm::pow2(exponent, fraction_q15) {
         Power::Value(value) => PowerAnswer {

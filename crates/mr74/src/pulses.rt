@@ -1,8 +1,8 @@
 // The pulses. The lists that are handed back are lent by the caller.
 ghost use Rattle.std.specs.Prelude.{◌≡◌};
-ghost use Rattle.codebook.specs.Readers.{told-places, decode};
-ghost use Rattle.codebook_search.specs.Pulses.{told-words, lent, pulses};
-ghost use Rattle.mr74.specs.Pulses.{pulses-answer, places-answer};
+ghost use Rattle.codebook.specs.Readers.{told_places, decode};
+ghost use Rattle.codebook_search.specs.Pulses.{told_words, lent, pulses};
+ghost use Rattle.mr74.specs.Pulses.{pulses_answer, places_answer};
 
 use codebook::PulseReading;
 use codebook_search::Pulses;
@@ -27,7 +27,7 @@ pub extern "C" fn mr74_pulse_search(
     filtered_q12: &mut [i16],
     sharpened_impulse_q12: &mut [i16],
 ) -> PulsesAnswer
-    ensures { (result ≡ pulses-answer (pulses target.now impulse_q12.now lag pitch_sharp_q14 (lent innovation_q13.old filtered_q12.old sharpened_impulse_q12.old)).answer)
+    ensures { (result ≡ pulses_answer (pulses target.now impulse_q12.now lag pitch_sharp_q14 (lent innovation_q13.old filtered_q12.old sharpened_impulse_q12.old)).answer)
         × (lent innovation_q13.new filtered_q12.new sharpened_impulse_q12.new ≡ (pulses target.now impulse_q12.now lag pitch_sharp_q14 (lent innovation_q13.old filtered_q12.old sharpened_impulse_q12.old)).after) }
 {
     let answer = codebook_search::search(
@@ -43,7 +43,7 @@ pub extern "C" fn mr74_pulse_search(
 }
 
 fn pulses_answer(answer: Pulses) -> PulsesAnswer
-    ensures { result ≡ pulses-answer (told-words answer) }
+    ensures { result ≡ pulses_answer (told_words answer) }
 {
     match answer {
         Pulses::Words(words) => PulsesAnswer {
@@ -81,7 +81,7 @@ pub extern "C" fn mr74_read_pulses(
     signs: u16,
     samples_q13: &mut [i16],
 ) -> PlacesAnswer
-    ensures { (result ≡ places-answer (decode positions signs samples_q13.old).answer)
+    ensures { (result ≡ places_answer (decode positions signs samples_q13.old).answer)
         × (samples_q13.new ≡ (decode positions signs samples_q13.old).after) }
 {
     let reading = codebook::read(positions, signs, samples_q13);
@@ -89,7 +89,7 @@ pub extern "C" fn mr74_read_pulses(
 }
 
 fn places_answer(reading: PulseReading) -> PlacesAnswer
-    ensures { result ≡ places-answer (told-places reading) }
+    ensures { result ≡ places_answer (told_places reading) }
 {
     match reading {
         PulseReading::Places(places) => PlacesAnswer {

@@ -1,7 +1,7 @@
 // The feed: what stands at a place of it.
 ghost use Rattle.std.specs.Prelude.{◌≡◌};
 ghost use Rattle.feed.specs.Records.{header};
-ghost use Rattle.mr74.specs.Records.{record-answer};
+ghost use Rattle.mr74.specs.Records.{record_answer};
 
 use feed::Header;
 
@@ -19,7 +19,7 @@ pub struct RecordAnswer {
 
 #[unsafe(no_mangle)]
 pub extern "C" fn mr74_record(feed: &[u8], at: usize) -> RecordAnswer
-    ensures { result ≡ record-answer at (header feed.now at) }
+    ensures { result ≡ record_answer at (header feed.now at) }
 {
     match feed::header_at(feed, at) {
         Header::End => RecordAnswer {

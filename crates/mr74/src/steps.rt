@@ -2,11 +2,11 @@
 ghost use Rattle.std.specs.Prelude.{[], ◌≡◌, length};
 ghost use Rattle.refusal.specs.Refused.{values, refused, turned_down};
 ghost use Rattle.refusal.specs.Checks.{checked};
-ghost use Rattle.feed.specs.Records.{body-length, header, body};
-ghost use Rattle.selection_answers.specs.Fields.{fields-of};
-ghost use Rattle.selection_answers.specs.Lines.{told-answer};
-ghost use Rattle.pitch_state.specs.Calls.{told-known};
-ghost use Rattle.mr74.specs.Steps.{subframes-of, subframes-at, state-after, step-answer, stepped, step-in-numbers};
+ghost use Rattle.feed.specs.Records.{body_length, header, body};
+ghost use Rattle.selection_answers.specs.Fields.{fields_of};
+ghost use Rattle.selection_answers.specs.Lines.{told_answer};
+ghost use Rattle.pitch_state.specs.Calls.{told_known};
+ghost use Rattle.mr74.specs.Steps.{subframes_of, subframes_at, state_after, step_answer, stepped, step_in_numbers};
 
 use feed::Header;
 use pitch_state::{Known, PitchState};
@@ -43,9 +43,9 @@ pub extern "C" fn mr74_step(
     history_q0: &mut [i16],
     words: &mut [i16],
 ) -> StepAnswer
-    ensures { (result ≡ (step-in-numbers feed.now at searcher reader history_q0.old words.old).answer)
-        × (history_q0.new ≡ (step-in-numbers feed.now at searcher reader history_q0.old words.old).history)
-        × (words.new ≡ (step-in-numbers feed.now at searcher reader history_q0.old words.old).words) }
+    ensures { (result ≡ (step_in_numbers feed.now at searcher reader history_q0.old words.old).answer)
+        × (history_q0.new ≡ (step_in_numbers feed.now at searcher reader history_q0.old words.old).history)
+        × (words.new ≡ (step_in_numbers feed.now at searcher reader history_q0.old words.old).words) }
 {
     if history_q0.len() != 143 {
         return refused_step(Refusal::Length(history_q0.len()), searcher, reader);
@@ -75,7 +75,7 @@ pub extern "C" fn mr74_step(
 }
 
 fn known_at(feed: &[u8], at: usize, searcher: PitchState, reader: PitchState) -> Known
-    ensures { told-known result ≡ checked (subframes-at (header feed.now at) (body feed.now at) searcher reader) refused (values tt) }
+    ensures { told_known result ≡ checked (subframes_at (header feed.now at) (body feed.now at) searcher reader) refused (values tt) }
 {
     match feed::header_at(feed, at) {
         Header::End => Known::All,
@@ -88,8 +88,8 @@ fn known_at(feed: &[u8], at: usize, searcher: PitchState, reader: PitchState) ->
 
 // Only the record that uses a state looks at the subframe that it expects.
 fn known_in(kind: u8, body: &[u8], searcher: PitchState, reader: PitchState) -> Known
-    requires { length body.now ≡ body-length kind }
-    ensures { told-known result ≡ checked (subframes-of kind body.now searcher reader) refused (values tt) }
+    requires { length body.now ≡ body_length kind }
+    ensures { told_known result ≡ checked (subframes_of kind body.now searcher reader) refused (values tt) }
 {
     if kind == 2 {
         return pitch_state::known_subframes(body[0], searcher.next);
@@ -101,7 +101,7 @@ fn known_in(kind: u8, body: &[u8], searcher: PitchState, reader: PitchState) -> 
 }
 
 fn stepped(step: LentStep, searcher: PitchState, reader: PitchState) -> StepAnswer
-    ensures { result ≡ stepped (told-answer step.answer []) step.searcher step.reader searcher reader }
+    ensures { result ≡ stepped (told_answer step.answer []) step.searcher step.reader searcher reader }
 {
     let answer = step.answer;
     let fields = selection_answers::fields_of(answer);
@@ -113,7 +113,7 @@ fn stepped(step: LentStep, searcher: PitchState, reader: PitchState) -> StepAnsw
 }
 
 fn refused_step(refusal: Refusal, searcher: PitchState, reader: PitchState) -> StepAnswer
-    ensures { result ≡ step-answer (fields-of (turned_down refusal)) searcher reader }
+    ensures { result ≡ step_answer (fields_of (turned_down refusal)) searcher reader }
 {
     step_answer(
         selection_answers::fields_of(Answer::Refused(refusal)),
@@ -123,7 +123,7 @@ fn refused_step(refusal: Refusal, searcher: PitchState, reader: PitchState) -> S
 }
 
 fn state_after(kind: u8, fields: Fields, new: PitchState, given: PitchState) -> PitchState
-    ensures { result ≡ state-after kind fields new given }
+    ensures { result ≡ state_after kind fields new given }
 {
     if fields.number != 0 {
         return given;
@@ -138,7 +138,7 @@ fn state_after(kind: u8, fields: Fields, new: PitchState, given: PitchState) -> 
 }
 
 fn step_answer(fields: Fields, searcher: PitchState, reader: PitchState) -> StepAnswer
-    ensures { result ≡ step-answer fields searcher reader }
+    ensures { result ≡ step_answer fields searcher reader }
 {
     StepAnswer {
         number: fields.number,

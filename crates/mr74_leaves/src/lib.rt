@@ -3,10 +3,10 @@
 
 ghost use Rattle.std.specs.Prelude.{◌≡◌, min, pos, nat_abs};
 ghost use Rattle.fixed.specs.Clip.{clip};
-ghost use Rattle.fixed.specs.Operators.{add, sub, negate, abs-s, L-add, L-sub, L-negate, L-abs, L-mult, L-mac, L-msu, mult, extract-h, round, extract-l, L-deposit-h, L-Extract, Mpy-32, Mpy-32-16, L-shl, shl, even-bits, norm-l, div-s};
+ghost use Rattle.fixed.specs.Operators.{add, sub, negate, abs_s, L_add, L_sub, L_negate, L_abs, L_mult, L_mac, L_msu, mult, extract_h, round, extract_l, L_deposit_h, L_Extract, Mpy_32, Mpy_32_16, L_shl, shl, even_bits, norm_l, div_s};
 ghost use Rattle.fixed.specs.Line.{line};
 ghost use Rattle.fixed.specs.Lists.{dot};
-ghost use Rattle.energy.specs.Root.{Inv-sqrt};
+ghost use Rattle.energy.specs.Root.{Inv_sqrt};
 
 use fixed::Halves;
 use sums::EnergyAndSum;
@@ -48,56 +48,56 @@ pub extern "C" fn leaf_negate16(v: i16) -> i16
 
 #[unsafe(no_mangle)]
 pub extern "C" fn leaf_absolute16(v: i16) -> i16
-    ensures { result ≡ abs-s v }
+    ensures { result ≡ abs_s v }
 {
     fixed::absolute16(v)
 }
 
 #[unsafe(no_mangle)]
 pub extern "C" fn leaf_add32(a: i32, b: i32) -> i32
-    ensures { result ≡ L-add a b }
+    ensures { result ≡ L_add a b }
 {
     fixed::add32(a, b)
 }
 
 #[unsafe(no_mangle)]
 pub extern "C" fn leaf_sub32(a: i32, b: i32) -> i32
-    ensures { result ≡ L-sub a b }
+    ensures { result ≡ L_sub a b }
 {
     fixed::sub32(a, b)
 }
 
 #[unsafe(no_mangle)]
 pub extern "C" fn leaf_negate32(v: i32) -> i32
-    ensures { result ≡ L-negate v }
+    ensures { result ≡ L_negate v }
 {
     fixed::negate32(v)
 }
 
 #[unsafe(no_mangle)]
 pub extern "C" fn leaf_absolute32(v: i32) -> i32
-    ensures { result ≡ L-abs v }
+    ensures { result ≡ L_abs v }
 {
     fixed::absolute32(v)
 }
 
 #[unsafe(no_mangle)]
 pub extern "C" fn leaf_product(a: i16, b: i16) -> i32
-    ensures { result ≡ L-mult a b }
+    ensures { result ≡ L_mult a b }
 {
     fixed::product(a, b)
 }
 
 #[unsafe(no_mangle)]
 pub extern "C" fn leaf_mac(sum: i32, a: i16, b: i16) -> i32
-    ensures { result ≡ L-mac sum a b }
+    ensures { result ≡ L_mac sum a b }
 {
     fixed::mac(sum, a, b)
 }
 
 #[unsafe(no_mangle)]
 pub extern "C" fn leaf_msu(sum: i32, a: i16, b: i16) -> i32
-    ensures { result ≡ L-msu sum a b }
+    ensures { result ≡ L_msu sum a b }
 {
     fixed::msu(sum, a, b)
 }
@@ -111,7 +111,7 @@ pub extern "C" fn leaf_fractional(a: i16, b: i16) -> i16
 
 #[unsafe(no_mangle)]
 pub extern "C" fn leaf_high(v: i32) -> i16
-    ensures { result ≡ extract-h v }
+    ensures { result ≡ extract_h v }
 {
     fixed::high(v)
 }
@@ -125,42 +125,42 @@ pub extern "C" fn leaf_rounded(v: i32) -> i16
 
 #[unsafe(no_mangle)]
 pub extern "C" fn leaf_low_word(v: i32) -> i16
-    ensures { result ≡ extract-l v }
+    ensures { result ≡ extract_l v }
 {
     fixed::low_word(v)
 }
 
 #[unsafe(no_mangle)]
 pub extern "C" fn leaf_deposit_high(v: i16) -> i32
-    ensures { result ≡ L-deposit-h v }
+    ensures { result ≡ L_deposit_h v }
 {
     fixed::deposit_high(v)
 }
 
 #[unsafe(no_mangle)]
 pub extern "C" fn leaf_split(v: i32) -> Halves
-    ensures { result ≡ L-Extract v }
+    ensures { result ≡ L_Extract v }
 {
     compound::split(v)
 }
 
 #[unsafe(no_mangle)]
 pub extern "C" fn leaf_multiply(a: i32, b: i32) -> i32
-    ensures { result ≡ Mpy-32 a b }
+    ensures { result ≡ Mpy_32 a b }
 {
     compound::multiply(a, b)
 }
 
 #[unsafe(no_mangle)]
 pub extern "C" fn leaf_multiply_word(a: i32, n: i16) -> i32
-    ensures { result ≡ Mpy-32-16 a n }
+    ensures { result ≡ Mpy_32_16 a n }
 {
     compound::multiply_word(a, n)
 }
 
 #[unsafe(no_mangle)]
 pub extern "C" fn leaf_shift(v: i32, n: i16) -> i32
-    ensures { result ≡ L-shl v n }
+    ensures { result ≡ L_shl v n }
 {
     fixed::shift(v, n)
 }
@@ -174,14 +174,14 @@ pub extern "C" fn leaf_shift_word(v: i16, n: i16) -> i16
 
 #[unsafe(no_mangle)]
 pub extern "C" fn leaf_even(v: i32) -> i32
-    ensures { result ≡ even-bits v }
+    ensures { result ≡ even_bits v }
 {
     fixed::even(v)
 }
 
 #[unsafe(no_mangle)]
 pub extern "C" fn leaf_normalize(v: i32) -> i16
-    ensures { result ≡ pos (norm-l v) }
+    ensures { result ≡ pos (norm_l v) }
 {
     fixed::normalize(v)
 }
@@ -195,7 +195,7 @@ pub extern "C" fn leaf_unsigned_abs(v: i32) -> u32
 
 #[unsafe(no_mangle)]
 pub extern "C" fn leaf_divide(a: i16, b: i16) -> i16
-    ensures { result ≡ div-s a b }
+    ensures { result ≡ div_s a b }
 {
     compound::divide(a, b)
 }
@@ -209,14 +209,14 @@ pub extern "C" fn leaf_interpolated(from: u16, to: u16, m: u32) -> u32
 
 #[unsafe(no_mangle)]
 pub extern "C" fn leaf_inverse_sqrt(value: i32) -> i32
-    ensures { result ≡ Inv-sqrt value }
+    ensures { result ≡ Inv_sqrt value }
 {
     energy::inverse_sqrt(value)
 }
 
 #[unsafe(no_mangle)]
 pub extern "C" fn leaf_product_high(a: i16, b: i16, n: u32) -> i16
-    ensures { result ≡ extract-h (L-shl (L-mult a b) (pos (min n 15))) }
+    ensures { result ≡ extract_h (L_shl (L_mult a b) (pos (min n 15))) }
 {
     compound::product_high(a, b, n)
 }

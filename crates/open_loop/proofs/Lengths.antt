@@ -7,17 +7,17 @@ use lib.Dec.{eqb}
 use lib.IntN.{ℤ, pos}
 use lib.ListN.{length}
 use Rattle.fixed.specs.Lists.{at, part}
-use Rattle.fixed.proofs.Lists.{length-tabulate}
+use Rattle.fixed.proofs.Lists.{length_tabulate}
 use Rattle.open_loop.specs.declared.Detector.{Detector}
-use Rattle.open_loop.specs.Detectors.{joined, Pitch-ol}
+use Rattle.open_loop.specs.Detectors.{joined, Pitch_ol}
 
-pub kept-length : (d : Detector) (samples : List ℤ) → length d.history_q0 ≡ 143 → length (Pitch-ol d samples).after.history_q0 ≡ 143
-unfolding Pitch-ol part
-kept-length d samples e = go (eqb (length samples) 80) refl
+pub kept_length : (d : Detector) (samples : List ℤ) → length d.history_q0 ≡ 143 → length (Pitch_ol d samples).after.history_q0 ≡ 143
+unfolding Pitch_ol part
+kept_length d samples e = go (eqb (length samples) 80) refl
   where
     words : List ℤ
     words = joined d.history_q0 samples
 
-    go : (t : Bool) → eqb (length samples) 80 ≡ t → length (Pitch-ol d samples).after.history_q0 ≡ 143
-    go true q = rw q (length-tabulate (λ k. at words (80 + k)) (pos 0) 143)
+    go : (t : Bool) → eqb (length samples) 80 ≡ t → length (Pitch_ol d samples).after.history_q0 ≡ 143
+    go true q = rw q (length_tabulate (λ k. at words (80 + k)) (pos 0) 143)
     go false q = rw q e

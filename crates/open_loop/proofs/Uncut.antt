@@ -8,17 +8,17 @@ use lib.Dec.{ltb, leb→le, le→leb}
 use lib.IntN.{ℤ, pos, negsuc, nat_abs}
 use lib.Signed.{mag, ◌≤ℤ◌}
 use Rattle.fixed.specs.Lists.{at}
-use Rattle.fixed.proofs.Bounds.{mag-abs}
-use Rattle.fixed.proofs.Lists.{at-tabulate}
-use Rattle.fixed.proofs.Signs.{low-id}
+use Rattle.fixed.proofs.Bounds.{mag_abs}
+use Rattle.fixed.proofs.Lists.{at_tabulate}
+use Rattle.fixed.proofs.Signs.{low_id}
 use Rattle.sums.specs.Plain.{squared}
 use Rattle.open_loop_correlation.specs.Correlations.{correlation}
 use Rattle.open_loop_correlation.proofs.Energies.{from}
-use Rattle.open_loop_sections.specs.Sections.{scaled-all, long-at, value-at}
-use Rattle.open_loop_sections.proofs.Cuts.{long-le, new-le}
+use Rattle.open_loop_sections.specs.Sections.{scaled_all, long_at, value_at}
+use Rattle.open_loop_sections.proofs.Cuts.{long_le, new_le}
 use Rattle.open_loop.specs.Detectors.{joined_at, joined}
-use Rattle.open_loop.specs.Opens.{open-loop-opens}
-use Rattle.open_loop.specs.Statement.{Words, Cut-changes-nothing, behind, Examples}
+use Rattle.open_loop.specs.Opens.{open_loop_opens}
+use Rattle.open_loop.specs.Statement.{Words, CutChangesNothing, behind, Examples}
 
 -- ---- a word by its ends and by its magnitude
 word : (z : ℤ) → (negsuc 32767 ≤ℤ z) × (z ≤ℤ pos 32767) → mag z < 2 ^ 15
@@ -36,7 +36,7 @@ at_most n (negsuc m) h = record { le = tt }
 -- ---- old and new words, joined
 joined_words : (old new : List ℤ) → Words old → Words new → (k : ℕ) → k < 223 → mag (at (joined old new) k) < 2 ^ 15
 unfolding joined
-joined_words old new o n k h = rw (at-tabulate (joined_at old new) (pos 0) 223 k h) (go (ltb k 143) refl)
+joined_words old new o n k h = rw (at_tabulate (joined_at old new) (pos 0) 223 k h) (go (ltb k 143) refl)
   where
     go : (t : Bool) → ltb k 143 ≡ t → mag (joined_at old new k) < 2 ^ 15
     go true q = rw q (word (at old k) (o k))
@@ -44,35 +44,35 @@ joined_words old new o n k h = rw (at-tabulate (joined_at old new) (pos 0) 223 k
 
 -- ---- where the new words' squares are at most 80 * 2 ^ 24, for any ends that are 27655 or farther from 0
 uncut : (low high : ℕ) (xs : List ℤ) (lag : ℕ) → squared (from xs 143) 80 ≤ 80 * 2 ^ 24 → 27655 ≤ suc low → 27655 ≤ high →
-    (negsuc low ≤ℤ long-at xs lag) × (long-at xs lag ≤ℤ pos high) × (value-at xs lag ≡ long-at xs lag)
-unfolding value-at
+    (negsuc low ≤ℤ long_at xs lag) × (long_at xs lag ≤ℤ pos high) × (value_at xs lag ≡ long_at xs lag)
+unfolding value_at
 uncut low high xs lag new l h =
-    let z = long-at xs lag in
-    let s = long-le xs lag new in
-    (at_least low z (omega (arith, s)), at_most high z (omega (arith, s)), low-id z (omega (arith, s, mag-abs z)))
+    let z = long_at xs lag in
+    let s = long_le xs lag new in
+    (at_least low z (omega (arith, s)), at_most high z (omega (arith, s)), low_id z (omega (arith, s, mag_abs z)))
 
-pub cut-changes-nothing : Cut-changes-nothing
-unfolding Cut-changes-nothing
-cut-changes-nothing d new o n lag =
-    uncut _ _ _ lag (new-le (joined d.history_q0 new) (joined_words d.history_q0 new o n)) (omega arith) (omega arith)
+pub cut_changes_nothing : CutChangesNothing
+unfolding CutChangesNothing
+cut_changes_nothing d new o n lag =
+    uncut _ _ _ lag (new_le (joined d.history_q0 new) (joined_words d.history_q0 new o n)) (omega arith) (omega arith)
 
 -- ---- the examples, a declaration each
-clipped : correlation (scaled-all (behind (negsuc 26213))) 100 ≡ pos 2147483647
-unfolding open-loop-opens
+clipped : correlation (scaled_all (behind (negsuc 26213))) 100 ≡ pos 2147483647
+unfolding open_loop_opens
 clipped = refl
 
-loud : long-at (scaled-all (behind (negsuc 26213))) 100 ≡ pos 25904
-unfolding open-loop-opens
+loud : long_at (scaled_all (behind (negsuc 26213))) 100 ≡ pos 25904
+unfolding open_loop_opens
 loud = refl
 
-not-scaled : long-at (behind (negsuc 0)) 100 ≡ pos 207240
-unfolding open-loop-opens
-not-scaled = refl
+not_scaled : long_at (behind (negsuc 0)) 100 ≡ pos 207240
+unfolding open_loop_opens
+not_scaled = refl
 
-not-scaled-cut : value-at (behind (negsuc 0)) 100 ≡ pos 10632
-unfolding open-loop-opens
-not-scaled-cut = refl
+not_scaled_cut : value_at (behind (negsuc 0)) 100 ≡ pos 10632
+unfolding open_loop_opens
+not_scaled_cut = refl
 
 pub examples : Examples
 unfolding Examples
-examples = (clipped, loud, not-scaled, not-scaled-cut)
+examples = (clipped, loud, not_scaled, not_scaled_cut)

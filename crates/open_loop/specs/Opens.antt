@@ -1,7 +1,7 @@
 -- One name for an `unfolding` line that computes the definitions of this crate.
-use Rattle.open_loop_sections.specs.Opens.{section-opens}
-use Rattle.open_loop.specs.Detectors.{fresh-detector, joined, Pitch-ol}
+use Rattle.open_loop_sections.specs.Opens.{section_opens}
+use Rattle.open_loop.specs.Detectors.{fresh_detector, joined, Pitch_ol}
 
-unfoldable pub open-loop-opens : Unit {0}
-unfolding section-opens fresh-detector joined Pitch-ol
-open-loop-opens = tt
+unfoldable pub open_loop_opens : Unit {0}
+unfolding section_opens fresh_detector joined Pitch_ol
+open_loop_opens = tt

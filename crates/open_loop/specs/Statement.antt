@@ -2,7 +2,7 @@
 use Rattle.std.specs.Prelude.{◌≡◌, List, ℕ, ℤ, pos, negsuc, replicate, ◌≤ℤ◌}
 use Rattle.fixed.specs.Lists.{at}
 use Rattle.open_loop_correlation.specs.Correlations.{correlation}
-use Rattle.open_loop_sections.specs.Sections.{scaled-all, long-at, value-at}
+use Rattle.open_loop_sections.specs.Sections.{scaled_all, long_at, value_at}
 use Rattle.open_loop.specs.declared.Detector.{Detector}
 use Rattle.open_loop.specs.Detectors.{joined}
 
@@ -13,11 +13,11 @@ Words xs = (k : ℕ) → (negsuc 32767 ≤ℤ at xs k) × (at xs k ≤ℤ pos 32
 
 -- 02: 'for every history and half frame the long before the cut already lies between −32768 and 32767, clipped sums included, so that cutting changes
 -- nothing'. The 223 words are scaled as 01 says, and correlation and energy are the clipped sums; it holds for every lag, so for the best of each section
-unfoldable pub Cut-changes-nothing : Type 0
-Cut-changes-nothing =
+unfoldable pub CutChangesNothing : Type 0
+CutChangesNothing =
     (d : Detector) (new : List ℤ) → Words d.history_q0 → Words new → (lag : ℕ) →
-    let xs = scaled-all (joined d.history_q0 new) in
-    (negsuc 32767 ≤ℤ long-at xs lag) × (long-at xs lag ≤ℤ pos 32767) × (value-at xs lag ≡ long-at xs lag)
+    let xs = scaled_all (joined d.history_q0 new) in
+    (negsuc 32767 ≤ℤ long_at xs lag) × (long_at xs lag ≤ℤ pos 32767) × (value_at xs lag ≡ long_at xs lag)
 
 -- ---- computed
 -- a half frame of -32768 behind a history of one word
@@ -28,7 +28,7 @@ behind v = joined (replicate 143 v) (replicate 80 (negsuc 32767))
 -- changes it
 unfoldable pub Examples : Type 0
 Examples =
-    (correlation (scaled-all (behind (negsuc 26213))) 100 ≡ pos 2147483647)
-    × (long-at (scaled-all (behind (negsuc 26213))) 100 ≡ pos 25904)
-    × (long-at (behind (negsuc 0)) 100 ≡ pos 207240)
-    × (value-at (behind (negsuc 0)) 100 ≡ pos 10632)
+    (correlation (scaled_all (behind (negsuc 26213))) 100 ≡ pos 2147483647)
+    × (long_at (scaled_all (behind (negsuc 26213))) 100 ≡ pos 25904)
+    × (long_at (behind (negsuc 0)) 100 ≡ pos 207240)
+    × (value_at (behind (negsuc 0)) 100 ≡ pos 10632)

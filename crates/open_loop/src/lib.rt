@@ -3,8 +3,8 @@
 
 ghost use Rattle.std.specs.Prelude.{◌≡◌, length};
 ghost use Rattle.fixed.specs.Lists.{part};
-ghost use Rattle.pitch.specs.Kinds.{told-lag};
-ghost use Rattle.open_loop.specs.Detectors.{fresh-detector, joined, Pitch-ol};
+ghost use Rattle.pitch.specs.Kinds.{told_lag};
+ghost use Rattle.open_loop.specs.Detectors.{fresh_detector, joined, Pitch_ol};
 
 use pitch::{OpenLoop, OpenLoopLag};
 use refusal::Refusal;
@@ -29,7 +29,7 @@ pub struct DetectorStep {
 
 impl Detector {
     pub fn fresh() -> Self
-        ensures { result ≡ fresh-detector }
+        ensures { result ≡ fresh_detector }
     {
         Detector {
             history_q0: [0; 143],
@@ -37,15 +37,15 @@ impl Detector {
     }
 
     pub fn reset(self) -> Self
-        ensures { result ≡ fresh-detector }
+        ensures { result ≡ fresh_detector }
     {
         Detector::fresh()
     }
 
     // Consecutive half frames of perceptually weighted speech.
     pub fn push(self, samples_q0: &[i16]) -> DetectorStep
-        ensures { (told-lag result.lag ≡ (Pitch-ol self samples_q0.now).answer)
-            × (result.detector ≡ (Pitch-ol self samples_q0.now).after) }
+        ensures { (told_lag result.lag ≡ (Pitch_ol self samples_q0.now).answer)
+            × (result.detector ≡ (Pitch_ol self samples_q0.now).after) }
     {
         if samples_q0.len() != HALF_FRAME_SAMPLES {
             return DetectorStep {

@@ -3,7 +3,7 @@
 
 ghost use Rattle.std.specs.Prelude.{true, ◌≡◌, ◌+◌, ◌-◌, ◌≤◌, ◌<◌, pos};
 ghost use Rattle.std.specs.Int.Signed.{lt_z};
-ghost use Rattle.open_loop_correlation.specs.Correlations.{products, energy-from, correlation, by-lag};
+ghost use Rattle.open_loop_correlation.specs.Correlations.{products, energy_from, correlation, by_lag};
 
 const HALF_FRAME_SAMPLES: usize = 80;
 
@@ -17,7 +17,7 @@ const LAGS: usize = 144;
 
 // By the lag: places 20 to 143. An energy of all words that is not clipped proves that no sum is.
 pub fn correlations(words: &[i16; 223]) -> [i32; 144]
-    ensures { result ≡ by-lag words.now }
+    ensures { result ≡ by_lag words.now }
 {
     if energy(words, 0, INPUT_SAMPLES) < 2147483647 {
         return plain_table(words);
@@ -27,7 +27,7 @@ pub fn correlations(words: &[i16; 223]) -> [i32; 144]
 
 // Of `count` words from a place on; 0 where these are not all among the 223. Terms are not negative, so the sum is clipped once.
 pub fn energy(words: &[i16; 223], from: usize, count: usize) -> i32
-    ensures { result ≡ energy-from words.now from count }
+    ensures { result ≡ energy_from words.now from count }
 {
     if INPUT_SAMPLES < from {
         return 0;
@@ -50,7 +50,7 @@ pub fn energy(words: &[i16; 223], from: usize, count: usize) -> i32
 
 fn plain_table(words: &[i16; 223]) -> [i32; 144]
     requires { lt_z (products words.now 0 0 223) (pos 2147483647) ≡ true }
-    ensures { result ≡ by-lag words.now }
+    ensures { result ≡ by_lag words.now }
 {
     let mut table = [0i32; LAGS];
     for lag in MINIMUM_LAG..LAGS {
@@ -76,7 +76,7 @@ fn plain_at(words: &[i16; 223], lag: usize) -> i32
 
 // Four lags at a time.
 fn clipped_table(words: &[i16; 223]) -> [i32; 144]
-    ensures { result ≡ by-lag words.now }
+    ensures { result ≡ by_lag words.now }
 {
     let mut table = [0i32; LAGS];
     let mut lag = MINIMUM_LAG;

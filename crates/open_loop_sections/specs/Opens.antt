@@ -1,8 +1,8 @@
 -- One name for an `unfolding` line that computes the definitions of this crate.
-use Rattle.energy.specs.Opens.{energy-opens}
-use Rattle.open_loop_correlation.specs.Opens.{lag-correlation-opens}
-use Rattle.open_loop_sections.specs.Sections.{scaled-all, delayed-energy, long-at, value-at, Lag-max, favoured, of-sections, lag-of}
+use Rattle.energy.specs.Opens.{energy_opens}
+use Rattle.open_loop_correlation.specs.Opens.{lag_correlation_opens}
+use Rattle.open_loop_sections.specs.Sections.{scaled_all, delayed_energy, long_at, value_at, Lag_max, favoured, of_sections, lag_of}
 
-unfoldable pub section-opens : Unit {0}
-unfolding energy-opens lag-correlation-opens scaled-all delayed-energy long-at value-at Lag-max favoured of-sections lag-of
-section-opens = tt
+unfoldable pub section_opens : Unit {0}
+unfolding energy_opens lag_correlation_opens scaled_all delayed_energy long_at value_at Lag_max favoured of_sections lag_of
+section_opens = tt

@@ -5,8 +5,8 @@ ghost use Rattle.std.specs.Prelude.{cond, ◌≡◌, ◌+◌, ◌≤◌, pos};
 ghost use Rattle.std.specs.Int.Signed.{lt_z};
 ghost use Rattle.fixed.specs.Operators.{mult};
 ghost use Rattle.fixed.specs.Lists.{at, best};
-ghost use Rattle.open_loop_correlation.specs.Correlations.{by-lag};
-ghost use Rattle.open_loop_sections.specs.Sections.{scaled, scaled-all, held_at, Lag-max, of-sections, lag-of};
+ghost use Rattle.open_loop_correlation.specs.Correlations.{by_lag};
+ghost use Rattle.open_loop_sections.specs.Sections.{scaled, scaled_all, held_at, Lag_max, of_sections, lag_of};
 
 const HALF_FRAME_SAMPLES: usize = 80;
 
@@ -20,14 +20,14 @@ const SHORT_LAG_THRESHOLD_Q15: i16 = 27853;
 
 // The lag of 223 words, 143 old ones and a half frame's 80 after them.
 pub fn lag_of(input: &[i16; 223]) -> usize
-    ensures { result ≡ lag-of input.now }
+    ensures { result ≡ lag_of input.now }
 {
     let words = scaled_all(input);
     of_sections(&words, &open_loop_correlation::correlations(&words))
 }
 
 fn scaled_all(input: &[i16; 223]) -> [i16; 223]
-    ensures { result ≡ scaled-all input.now }
+    ensures { result ≡ scaled_all input.now }
 {
     let energy = open_loop_correlation::energy(input, 0, INPUT_SAMPLES);
     let mut words = [0i16; INPUT_SAMPLES];
@@ -50,8 +50,8 @@ fn scaled(v: i16, energy: i32) -> i16
 }
 
 fn of_sections(words: &[i16; 223], table: &[i32; 144]) -> usize
-    requires { table.now ≡ by-lag words.now }
-    ensures { result ≡ of-sections words.now }
+    requires { table.now ≡ by_lag words.now }
+    ensures { result ≡ of_sections words.now }
 {
     let long = section(words, table, 80, 63);
     let middle = section(words, table, 40, 39);
@@ -68,8 +68,8 @@ struct Held {
 
 // The best of a section's lags.
 fn section(words: &[i16; 223], table: &[i32; 144], low: usize, span: usize) -> Held
-    requires { (table.now ≡ by-lag words.now) × (20 ≤ low) × (low + span ≤ 143) }
-    ensures { result ≡ held_at words.now (Lag-max words.now low span) }
+    requires { (table.now ≡ by_lag words.now) × (20 ≤ low) × (low + span ≤ 143) }
+    ensures { result ≡ held_at words.now (Lag_max words.now low span) }
 {
     let lag = best_lag(table, low, span);
     let energy = open_loop_correlation::energy(words, HISTORY_SAMPLES - lag, HALF_FRAME_SAMPLES);

@@ -10,101 +10,101 @@ use Rattle.pitch.specs.declared.Fraction.{Fraction}
 use Rattle.pitch.specs.declared.Fraction.TheVariants.{MinusThird, Zero, PlusThird}
 use Rattle.pitch.specs.declared.PitchLag.{PitchLag}
 use Rattle.pitch.specs.Kinds.{from_zero}
-use Rattle.pitch.specs.Windows.{window-start, absolute-start, relative-start}
-use Rattle.pitch.specs.Indexes.{absolute-index, relative-index, fraction-at, minus_one, absolute-lag, relative-lag}
+use Rattle.pitch.specs.Windows.{window_start, absolute_start, relative_start}
+use Rattle.pitch.specs.Indexes.{absolute_index, relative_index, fraction_at, minus_one, absolute_lag, relative_lag}
 
 -- ---- fractions
-pub from-zero-le : (f : Fraction) → from_zero f ≤ 2
-from-zero-le MinusThird = omega arith
-from-zero-le Zero = omega arith
-from-zero-le PlusThird = omega arith
+pub from_zero_le : (f : Fraction) → from_zero f ≤ 2
+from_zero_le MinusThird = omega arith
+from_zero_le Zero = omega arith
+from_zero_le PlusThird = omega arith
 
 -- the fraction by the index's remainder is 'index − 2 − 3 × i'
-pub same-fraction : (index : ℕ) → fraction-at index ≡ minus_one (index + 2 - 3 * ((index + 2) / 3))
-same-fraction index = go (index % 3) refl
+pub same_fraction : (index : ℕ) → fraction_at index ≡ minus_one (index + 2 - 3 * ((index + 2) / 3))
+same_fraction index = go (index % 3) refl
   where
-    go : (r : ℕ) → index % 3 ≡ r → fraction-at index ≡ minus_one (index + 2 - 3 * ((index + 2) / 3))
+    go : (r : ℕ) → index % 3 ≡ r → fraction_at index ≡ minus_one (index + 2 - 3 * ((index + 2) / 3))
     go zero e = let n : index + 2 - 3 * ((index + 2) / 3) ≡ 2 = omega arith in rw (e, n)
     go (suc zero) e = let n : index + 2 - 3 * ((index + 2) / 3) ≡ 0 = omega arith in rw (e, n)
     go (suc (suc zero)) e = let n : index + 2 - 3 * ((index + 2) / 3) ≡ 1 = omega arith in rw (e, n)
     go (suc (suc (suc r))) e = let z : ⊥ = omega arith in absurd z
 
 -- a fraction is read back from a number that leaves its remainder
-minus-one-back : (f : Fraction) (n : ℕ) → n ≡ from_zero f → minus_one n ≡ f
-minus-one-back MinusThird n e = rw e
-minus-one-back Zero n e = rw e
-minus-one-back PlusThird n e = rw e
+minus_one_back : (f : Fraction) (n : ℕ) → n ≡ from_zero f → minus_one n ≡ f
+minus_one_back MinusThird n e = rw e
+minus_one_back Zero n e = rw e
+minus_one_back PlusThird n e = rw e
 
 -- ---- a lag counted in thirds
-abbrev pub in-thirds : PitchLag → ℕ
-in-thirds l = 3 * l.samples + from_zero l.fraction
+abbrev pub in_thirds : PitchLag → ℕ
+in_thirds l = 3 * l.samples + from_zero l.fraction
 
 -- a whole lag from 85 up has one index, by either line of the rule
-whole-index : (l : PitchLag) → 85 ≤ l.samples → l.fraction ≡ Zero → absolute-index l ≡ l.samples + 112
-whole-index l h e = go (leb l.samples 85) refl
+whole_index : (l : PitchLag) → 85 ≤ l.samples → l.fraction ≡ Zero → absolute_index l ≡ l.samples + 112
+whole_index l h e = go (leb l.samples 85) refl
   where
-    go : (t : Bool) → leb l.samples 85 ≡ t → absolute-index l ≡ l.samples + 112
+    go : (t : Bool) → leb l.samples 85 ≡ t → absolute_index l ≡ l.samples + 112
     go true q = rw (q, e) (omega (arith, leb-true l.samples 85 q))
     go false q = rw q
 
 -- ---- a window lies between 20 and the upper lag, for every centre
-pub window-low : (span radius upper centre : ℕ) → 20 ≤ window-start span radius upper centre
-window-low span radius upper centre = omega arith
+pub window_low : (span radius upper centre : ℕ) → 20 ≤ window_start span radius upper centre
+window_low span radius upper centre = omega arith
 
-pub window-high : (span radius upper centre : ℕ) → 20 + span ≤ upper → window-start span radius upper centre + span ≤ upper
-window-high span radius upper centre h = omega arith
+pub window_high : (span radius upper centre : ℕ) → 20 + span ≤ upper → window_start span radius upper centre + span ≤ upper
+window_high span radius upper centre h = omega arith
 
 -- ---- decode after encode, in a window that starts at `start`
-module _ (start : ℕ) (h : 20 ≤ start) (l : PitchLag) (low : 3 * start ≤ in-thirds l + 1) where
+module _ (start : ℕ) (h : 20 ≤ start) (l : PitchLag) (low : 3 * start ≤ in_thirds l + 1) where
   -- by thirds up to 85 and −1, by whole lags from 85 to 143
   abbrev Absolute : Type 0
-  Absolute = (in-thirds l ≤ 255) ⊎ ((85 ≤ l.samples) × (l.samples ≤ 143) × (l.fraction ≡ Zero))
+  Absolute = (in_thirds l ≤ 255) ⊎ ((85 ≤ l.samples) × (l.samples ≤ 143) × (l.fraction ≡ Zero))
 
-  absolute-back : Absolute → absolute-lag (absolute-index l) ≡ l
-  absolute-back (inl g) =
-      let f = from-zero-le l.fraction in
-      let i = in-thirds l - 59 in
+  absolute_back : Absolute → absolute_lag (absolute_index l) ≡ l
+  absolute_back (inl g) =
+      let f = from_zero_le l.fraction in
+      let i = in_thirds l - 59 in
       rw (
         le-leb l.samples 85 (omega arith),
-        lt-ltb (in-thirds l - 59) 197 (omega arith),
-        same-fraction (in-thirds l - 59),
-        minus-one-back l.fraction (i + 2 - 3 * ((i + 2) / 3)) (omega arith),
+        lt-ltb (in_thirds l - 59) 197 (omega arith),
+        same_fraction (in_thirds l - 59),
+        minus_one_back l.fraction (i + 2 - 3 * ((i + 2) / 3)) (omega arith),
       )
       (ap (λ (n : ℕ). record { samples = n; fraction = l.fraction }) (omega arith))
-  absolute-back (inr (b, g, e)) =
-      rw (whole-index l b e, le-ltb (l.samples + 112) 197 (omega arith), ← e)
+  absolute_back (inr (b, g, e)) =
+      rw (whole_index l b e, le-ltb (l.samples + 112) 197 (omega arith), ← e)
       (ap (λ (n : ℕ). record { samples = n; fraction = l.fraction }) (omega arith))
 
-  absolute-fits : Absolute → absolute-index l ≤ 255
-  absolute-fits (inl g) = let f = from-zero-le l.fraction in rw (le-leb l.samples 85 (omega arith)) (omega arith)
-  absolute-fits (inr (b, g, e)) = rw (whole-index l b e) (omega arith)
+  absolute_fits : Absolute → absolute_index l ≤ 255
+  absolute_fits (inl g) = let f = from_zero_le l.fraction in rw (le-leb l.samples 85 (omega arith)) (omega arith)
+  absolute_fits (inr (b, g, e)) = rw (whole_index l b e) (omega arith)
 
-  relative-back : relative-lag start (relative-index start l) ≡ l
-  relative-back =
-      let f = from-zero-le l.fraction in
-      let i = in-thirds l + 1 - 3 * start in
-      rw (minus-one-back l.fraction (i + 2 - 3 * ((i + 2) / 3)) (omega arith))
+  relative_back : relative_lag start (relative_index start l) ≡ l
+  relative_back =
+      let f = from_zero_le l.fraction in
+      let i = in_thirds l + 1 - 3 * start in
+      rw (minus_one_back l.fraction (i + 2 - 3 * ((i + 2) / 3)) (omega arith))
       (ap (λ (n : ℕ). record { samples = n; fraction = l.fraction }) (omega arith))
 
 -- ---- the two rules together, for every upper lag from 40 to 143 and every centre
 module _ (upper : ℕ) (h : 40 ≤ upper) (g : upper ≤ 143) (centre : ℕ) (l : PitchLag) where
   -- subframes 1 and 3: from one lag less a third below the start, by thirds up to 85 and −1, by whole lags from 85 to the window's end
-  pub absolute-round : 3 * absolute-start upper centre ≤ in-thirds l + 1 →
-      (in-thirds l ≤ 255) ⊎ ((85 ≤ l.samples) × (l.samples ≤ absolute-start upper centre + 6) × (l.fraction ≡ Zero)) →
-      (absolute-lag (absolute-index l) ≡ l) × (absolute-index l ≤ 255)
-  absolute-round low c =
-      let start = absolute-start upper centre in
-      let a = window-low 6 3 upper centre in
+  pub absolute_round : 3 * absolute_start upper centre ≤ in_thirds l + 1 →
+      (in_thirds l ≤ 255) ⊎ ((85 ≤ l.samples) × (l.samples ≤ absolute_start upper centre + 6) × (l.fraction ≡ Zero)) →
+      (absolute_lag (absolute_index l) ≡ l) × (absolute_index l ≤ 255)
+  absolute_round low c =
+      let start = absolute_start upper centre in
+      let a = window_low 6 3 upper centre in
       let b = within c in
-      (absolute-back start a l low b, absolute-fits start a l low b)
+      (absolute_back start a l low b, absolute_fits start a l low b)
     where
-      within : (in-thirds l ≤ 255) ⊎ ((85 ≤ l.samples) × (l.samples ≤ absolute-start upper centre + 6) × (l.fraction ≡ Zero)) →
-          (in-thirds l ≤ 255) ⊎ ((85 ≤ l.samples) × (l.samples ≤ 143) × (l.fraction ≡ Zero))
+      within : (in_thirds l ≤ 255) ⊎ ((85 ≤ l.samples) × (l.samples ≤ absolute_start upper centre + 6) × (l.fraction ≡ Zero)) →
+          (in_thirds l ≤ 255) ⊎ ((85 ≤ l.samples) × (l.samples ≤ 143) × (l.fraction ≡ Zero))
       within (inl t) = inl t
-      within (inr (b, t, e)) = inr (b, omega (arith, window-high 6 3 upper centre (omega arith)), e)
+      within (inr (b, t, e)) = inr (b, omega (arith, window_high 6 3 upper centre (omega arith)), e)
 
   -- subframes 2 and 4: from one lag less a third below the start to one lag less a third above the end
-  pub relative-round : 3 * relative-start upper centre ≤ in-thirds l + 1 → in-thirds l ≤ 3 * (relative-start upper centre + 9) + 3 →
-      (relative-lag (relative-start upper centre) (relative-index (relative-start upper centre) l) ≡ l)
-      × (relative-index (relative-start upper centre) l ≤ 31)
-  relative-round low high = (relative-back (relative-start upper centre) (window-low 9 5 upper centre) l low, omega arith)
+  pub relative_round : 3 * relative_start upper centre ≤ in_thirds l + 1 → in_thirds l ≤ 3 * (relative_start upper centre + 9) + 3 →
+      (relative_lag (relative_start upper centre) (relative_index (relative_start upper centre) l) ≡ l)
+      × (relative_index (relative_start upper centre) l ≤ 31)
+  relative_round low high = (relative_back (relative_start upper centre) (window_low 9 5 upper centre) l low, omega arith)

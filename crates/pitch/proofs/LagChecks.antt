@@ -5,23 +5,23 @@ use Prim.Native.Nat.{ℕ}
 use Rattle.fixed.proofs.Clips.{contradiction}
 use Rattle.refusal.specs.Refused.{accepts}
 use Rattle.refusal.specs.Checks.{within}
-use Rattle.refusal.proofs.Checkings.{value-or}
+use Rattle.refusal.proofs.Checkings.{value_or}
 use Rattle.refusal.specs.declared.Refusal.{Refusal}
 use Rattle.pitch.specs.declared.OpenLoopLag.{OpenLoopLag}
 use Rattle.pitch.specs.declared.OpenLoop.{OpenLoop}
 use Rattle.pitch.specs.declared.OpenLoop.TheVariants.{Lag, Refused}
-use Rattle.pitch.specs.Kinds.{told-lag, try-lag}
+use Rattle.pitch.specs.Kinds.{told_lag, try_lag}
 
-module _ (n : ℕ) {o : OpenLoop} (e : told-lag o ≡ try-lag n) where
-  pub lag-taken : {l : OpenLoopLag} → o ≡ Lag l → (within 20 143 n ≡ true) × (l.0 ≡ n)
-  lag-taken {l} c = go (within 20 143 n) refl
+module _ (n : ℕ) {o : OpenLoop} (e : told_lag o ≡ try_lag n) where
+  pub lag_taken : {l : OpenLoopLag} → o ≡ Lag l → (within 20 143 n ≡ true) × (l.0 ≡ n)
+  lag_taken {l} c = go (within 20 143 n) refl
     where
       go : (t : Bool) → within 20 143 n ≡ t → (within 20 143 n ≡ true) × (l.0 ≡ n)
-      go true q = (q, ap (value-or 0) (rw (c, q) at e))
+      go true q = (q, ap (value_or 0) (rw (c, q) at e))
       go false q = contradiction (sym (ap accepts (rw (c, q) at e)))
 
-  pub lag-refused : {r : Refusal} → o ≡ Refused r → within 20 143 n ≡ false
-  lag-refused {r} c = go (within 20 143 n) refl
+  pub lag_refused : {r : Refusal} → o ≡ Refused r → within 20 143 n ≡ false
+  lag_refused {r} c = go (within 20 143 n) refl
     where
       go : (t : Bool) → within 20 143 n ≡ t → within 20 143 n ≡ false
       go true q = contradiction (ap accepts (rw (c, q) at e))

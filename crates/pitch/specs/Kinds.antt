@@ -1,7 +1,7 @@
 -- The numbers of 01 that stand behind fractions and subframes, the lag of a fresh searcher, and the open-loop lag.
 use Rattle.std.specs.Prelude.{Bool, true, false, [], ◌∷◌, ℕ, ℤ, pos, negsuc}
 use Rattle.refusal.specs.Refused.{Told, values, refused, turned_down}
-use Rattle.refusal.specs.Checks.{checked, open-loop-lag}
+use Rattle.refusal.specs.Checks.{checked, open_loop_lag}
 use Rattle.pitch.specs.declared.Fraction.{Fraction}
 use Rattle.pitch.specs.declared.Fraction.TheVariants.{MinusThird, Zero, PlusThird}
 use Rattle.pitch.specs.declared.Subframe.{Subframe}
@@ -23,15 +23,15 @@ from_zero Zero = 1
 from_zero PlusThird = 2
 
 -- 'Fresh searcher and fresh reader: previous lag 40, expecting 1'
-abbrev pub fresh-lag : PitchLag
-fresh-lag = record { samples = 40; fraction = Zero }
+abbrev pub fresh_lag : PitchLag
+fresh_lag = record { samples = 40; fraction = Zero }
 
 -- 01: 'A subframe number', 1 to 4
-abbrev pub subframe-number : Subframe → ℕ
-subframe-number One = 1
-subframe-number Two = 2
-subframe-number Three = 3
-subframe-number Four = 4
+abbrev pub subframe_number : Subframe → ℕ
+subframe_number One = 1
+subframe_number Two = 2
+subframe_number Three = 3
+subframe_number Four = 4
 
 -- subframes 1 and 3
 abbrev pub absolute : Subframe → Bool
@@ -48,10 +48,10 @@ following Three = Four
 following Four = One
 
 -- the answer of `try_new`, as 01 gives it
-abbrev pub told-lag : OpenLoop → Told ℕ
-told-lag (Lag l) = values l.0
-told-lag (Refused r) = turned_down r
+abbrev pub told_lag : OpenLoop → Told ℕ
+told_lag (Lag l) = values l.0
+told_lag (Refused r) = turned_down r
 
 -- 01, number 3: 'outside 20 to 143'
-abbrev pub try-lag : ℕ → Told ℕ
-try-lag n = checked (open-loop-lag n ∷ []) refused (values n)
+abbrev pub try_lag : ℕ → Told ℕ
+try_lag n = checked (open_loop_lag n ∷ []) refused (values n)

@@ -6,13 +6,13 @@ abbrev pub handset : ℕ
 handset = 143
 
 -- a window of span + 1 lags from centre - radius, pushed inward so that it lies in 20 .. upper
-abbrev pub window-start : ℕ → ℕ → ℕ → ℕ → ℕ
-window-start span radius upper centre = max 20 (min (upper - span) (centre - radius))
+abbrev pub window_start : ℕ → ℕ → ℕ → ℕ → ℕ
+window_start span radius upper centre = max 20 (min (upper - span) (centre - radius))
 
 -- subframes 1 and 3: 7 lags from an open-loop lag - 3
-abbrev pub absolute-start : ℕ → ℕ → ℕ
-absolute-start upper centre = window-start 6 3 upper centre
+abbrev pub absolute_start : ℕ → ℕ → ℕ
+absolute_start upper centre = window_start 6 3 upper centre
 
 -- subframes 2 and 4: 10 lags from the previous whole lag - 5
-abbrev pub relative-start : ℕ → ℕ → ℕ
-relative-start upper previous = window-start 9 5 upper previous
+abbrev pub relative_start : ℕ → ℕ → ℕ
+relative_start upper previous = window_start 9 5 upper previous

@@ -2,9 +2,9 @@
 #![tactic(auto)]
 
 ghost use Rattle.std.specs.Prelude.{◌≡◌};
-ghost use Rattle.pitch.specs.Kinds.{thirds, from_zero, fresh-lag, subframe-number, absolute, following, told-lag, try-lag};
-ghost use Rattle.pitch.specs.Windows.{absolute-start, relative-start, handset};
-ghost use Rattle.pitch.specs.Indexes.{absolute-index, relative-index, fraction-at, absolute-lag, relative-lag, index_of, lag-of};
+ghost use Rattle.pitch.specs.Kinds.{thirds, from_zero, fresh_lag, subframe_number, absolute, following, told_lag, try_lag};
+ghost use Rattle.pitch.specs.Windows.{absolute_start, relative_start, handset};
+ghost use Rattle.pitch.specs.Indexes.{absolute_index, relative_index, fraction_at, absolute_lag, relative_lag, index_of, lag_of};
 
 use refusal::Refusal;
 
@@ -54,7 +54,7 @@ impl Fraction {
     }
 
     fn at(index: u8) -> Self
-        ensures { result ≡ fraction-at index }
+        ensures { result ≡ fraction_at index }
     {
         match index % 3 {
             0 => Fraction::PlusThird,
@@ -74,7 +74,7 @@ pub enum Subframe {
 
 impl Subframe {
     pub fn number(self) -> u8
-        ensures { result ≡ subframe-number self }
+        ensures { result ≡ subframe_number self }
     {
         match self {
             Subframe::One => 1,
@@ -125,7 +125,7 @@ impl OpenLoopLag {
     pub const MAX: u16 = 143;
 
     pub fn try_new(samples: u16) -> OpenLoop
-        ensures { told-lag result ≡ try-lag samples }
+        ensures { told_lag result ≡ try_lag samples }
     {
         if samples < OpenLoopLag::MIN {
             return OpenLoop::Refused(Refusal::OpenLoopLag(samples));
@@ -153,7 +153,7 @@ pub struct PitchLag {
 impl PitchLag {
     // TS 26.073 Dec_lag3, subframes one and three.
     pub fn from_absolute(index: u8) -> Self
-        ensures { result ≡ absolute-lag index }
+        ensures { result ≡ absolute_lag index }
     {
         let wide = index as u16;
         if wide < FRACTIONAL_INDEX_LIMIT {
@@ -171,7 +171,7 @@ impl PitchLag {
 
     // TS 26.073 Dec_lag3, subframes two and four: the rule of every index, as in the Rust. Above 31 the lag reader refuses.
     fn relative(index: u8, previous: u16) -> Self
-        ensures { result ≡ relative-lag (relative-start handset previous) index }
+        ensures { result ≡ relative_lag (relative_start handset previous) index }
     {
         let start = relative_start(previous);
         let fraction = Fraction::at(index);
@@ -183,7 +183,7 @@ impl PitchLag {
 
     // The lag of an index in a subframe, after the whole lag `previous`.
     pub fn decoded(subframe: Subframe, index: u8, previous: u16) -> Self
-        ensures { result ≡ lag-of subframe previous index }
+        ensures { result ≡ lag_of subframe previous index }
     {
         if subframe.absolute() {
             return PitchLag::from_absolute(index);
@@ -203,7 +203,7 @@ impl PitchLag {
 
     // TS 26.073 Enc_lag3, subframes one and three.
     pub fn absolute_index(self) -> u32
-        ensures { result ≡ absolute-index self }
+        ensures { result ≡ absolute_index self }
     {
         let samples = self.samples as u32;
         if INTEGER_ENCODING_LIMIT < samples {
@@ -219,7 +219,7 @@ impl PitchLag {
 
     // TS 26.073 Enc_lag3, subframes two and four.
     pub fn relative_index(self, start: u16) -> u32
-        ensures { result ≡ relative-index start self }
+        ensures { result ≡ relative_index start self }
     {
         let fraction = self.fraction;
         let place = 3 * self.samples as u32 + fraction.from_zero() + 1;
@@ -233,7 +233,7 @@ impl PitchLag {
 
 // The first lag of a window of 7 round an open-loop lag, and of a window of 10 round the lag before.
 pub fn absolute_start(centre: u16) -> u16
-    ensures { result ≡ absolute-start handset centre }
+    ensures { result ≡ absolute_start handset centre }
 {
     if centre < 23 {
         return 20;
@@ -245,7 +245,7 @@ pub fn absolute_start(centre: u16) -> u16
 }
 
 pub fn relative_start(previous: u16) -> u16
-    ensures { result ≡ relative-start handset previous }
+    ensures { result ≡ relative_start handset previous }
 {
     if previous < 25 {
         return 20;
@@ -258,7 +258,7 @@ pub fn relative_start(previous: u16) -> u16
 
 // The lag of a fresh searcher and of a fresh reader.
 pub fn fresh_lag() -> PitchLag
-    ensures { result ≡ fresh-lag }
+    ensures { result ≡ fresh_lag }
 {
     PitchLag {
         samples: INITIAL_LAG_SAMPLES,

@@ -2,7 +2,7 @@
 #![tactic(auto)]
 
 ghost use Rattle.std.specs.Prelude.{◌≡◌, ◌+◌, ◌<◌, ◌≤◌};
-ghost use Rattle.pitch_choice.specs.Choices.{interpolator, Interpol-6, step_value, best-lag, best-step, settled, chosen, choose};
+ghost use Rattle.pitch_choice.specs.Choices.{interpolator, Interpol_6, step_value, best_lag, best_step, settled, chosen, choose};
 
 use pitch::{Fraction, PitchLag};
 
@@ -23,7 +23,7 @@ const INTERPOLATOR: [i16; 25] = [
 // The larger lag wins a tie.
 fn best_lag(correlation: &[i16; 148], start: usize, span: usize) -> usize
     requires { start + span < 148 }
-    ensures { result ≡ best-lag correlation.now start span }
+    ensures { result ≡ best_lag correlation.now start span }
 {
     let mut lag = start;
     let mut i = 0;
@@ -39,7 +39,7 @@ fn best_lag(correlation: &[i16; 148], start: usize, span: usize) -> usize
 // TS 26.073 Interpol_3or6.
 fn interpolated(correlation: &[i16; 148], place: usize, phase: usize, table: &[i16; 25]) -> i16
     requires { (table.now ≡ interpolator) × (3 ≤ place) × (place ≤ 143) × (phase ≤ 6) }
-    ensures { result ≡ Interpol-6 correlation.now place phase }
+    ensures { result ≡ Interpol_6 correlation.now place phase }
 {
     let mut sum: i32 = 0;
     for i in 0..INTERPOLATION_SAMPLES {
@@ -63,7 +63,7 @@ fn step_value(correlation: &[i16; 148], lag: usize, step: usize, table: &[i16; 2
 // The earlier fraction is kept on a tie.
 fn best_step(correlation: &[i16; 148], lag: usize) -> usize
     requires { (4 ≤ lag) × (lag ≤ 143) }
-    ensures { result ≡ best-step correlation.now lag 4 }
+    ensures { result ≡ best_step correlation.now lag 4 }
 {
     let table = INTERPOLATOR;
     let mut best = 0;

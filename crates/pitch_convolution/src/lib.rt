@@ -2,7 +2,7 @@
 #![tactic(auto)]
 
 ghost use Rattle.std.specs.Prelude.{◌≡◌};
-ghost use Rattle.pitch_convolution.specs.Filters.{Convolve, told-convolution, convolve};
+ghost use Rattle.pitch_convolution.specs.Filters.{Convolve, told_convolution, convolve};
 
 use refusal::Refusal;
 
@@ -17,7 +17,7 @@ pub enum Convolution {
 
 // TS 26.073 Convolve, which truncates.
 pub fn convolve(input: &[i16], impulse_q12: &[i16], output: &mut [i16]) -> Convolution
-    ensures { (told-convolution result ≡ (convolve input.now impulse_q12.now output.old).answer)
+    ensures { (told_convolution result ≡ (convolve input.now impulse_q12.now output.old).answer)
         × (output.new ≡ (convolve input.now impulse_q12.now output.old).after) }
 {
     if input.len() != SUBFRAME_SAMPLES {

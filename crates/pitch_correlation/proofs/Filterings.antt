@@ -6,15 +6,15 @@ use Prim.Native.Nat.{ℕ, zero, suc, ◌-◌, ◌≤◌, ◌<◌, min}
 use native.Mathlib.Omega.{arith}
 use lib.IntN.{ℤ, pos}
 use lib.ListN.{length}
-use Rattle.fixed.specs.Operators.{add, L-mult, L-shl, extract-h}
+use Rattle.fixed.specs.Operators.{add, L_mult, L_shl, extract_h}
 use Rattle.fixed.specs.Lists.{at, between}
 use borrow.Author.Tests.{eq-eqb, le-leb, lt-ltb}
-use Rattle.pitch_correlation.specs.Correlations.{update-at, correlations, Norm-Corr}
+use Rattle.pitch_correlation.specs.Correlations.{update_at, correlations, Norm_Corr}
 
 -- the shift of a filter is never held
-pub shift-held : (l : Bool) → min (cond l 1 3) 15 ≡ cond l 1 3
-shift-held true = refl
-shift-held false = refl
+pub shift_held : (l : Bool) → min (cond l 1 3) 15 ≡ cond l 1 3
+shift_held true = refl
+shift_held false = refl
 
 -- the words one place on, behind a 0
 abbrev pub moved_at : List ℤ → ℕ → ℤ
@@ -22,18 +22,18 @@ moved_at fs = between (λ j. at fs (j - 1)) (λ j. pos 0) 1 40
 
 -- every place filtered alike, the first too
 abbrev pub alike_at : Bool → List ℤ → ℤ → List ℤ → ℕ → ℤ
-alike_at l hs sample fs k = add (extract-h (L-shl (L-mult sample (at hs k)) (pos (cond l 1 3)))) (moved_at fs k)
+alike_at l hs sample fs k = add (extract_h (L_shl (L_mult sample (at hs k)) (pos (cond l 1 3)))) (moved_at fs k)
 
 -- past the first it is the update's word
-pub update-past : (l : Bool) (hs : List ℤ) (sample : ℤ) (fs : List ℤ) (k : ℕ) → 1 ≤ k → k < 40 → alike_at l hs sample fs k ≡ update-at l hs sample fs k
-unfolding update-at
-update-past l hs sample fs zero h b = absurd (omega arith)
-update-past l hs sample fs (suc k) h b =
+pub update_past : (l : Bool) (hs : List ℤ) (sample : ℤ) (fs : List ℤ) (k : ℕ) → 1 ≤ k → k < 40 → alike_at l hs sample fs k ≡ update_at l hs sample fs k
+unfolding update_at
+update_past l hs sample fs zero h b = absurd (omega arith)
+update_past l hs sample fs (suc k) h b =
     let e : suc k - 1 ≡ k = omega arith in
-    rw (le-leb 1 (suc k) h, lt-ltb (suc k) 40 b) (ap (λ (j : ℕ). add (extract-h (L-shl (L-mult sample (at hs (suc k))) (pos (cond l 1 3)))) (at fs j)) e)
+    rw (le-leb 1 (suc k) h, lt-ltb (suc k) 40 b) (ap (λ (j : ℕ). add (extract_h (L_shl (L_mult sample (at hs (suc k))) (pos (cond l 1 3)))) (at fs j)) e)
 
 -- so asked, it is answered
-pub norm-corr : (exc target hs : List ℤ) (low end : ℕ) → length exc ≡ 194 → length target ≡ 40 → length hs ≡ 40 → low < end → end ≤ 148 →
-    Norm-Corr exc target hs low end ≡ correlations exc target hs low end
-unfolding Norm-Corr
-norm-corr exc target hs low end e t h l b = rw (eq-eqb (length exc) 194 e, eq-eqb (length target) 40 t, eq-eqb (length hs) 40 h, lt-ltb low end l, le-leb end 148 b)
+pub norm_corr : (exc target hs : List ℤ) (low end : ℕ) → length exc ≡ 194 → length target ≡ 40 → length hs ≡ 40 → low < end → end ≤ 148 →
+    Norm_Corr exc target hs low end ≡ correlations exc target hs low end
+unfolding Norm_Corr
+norm_corr exc target hs low end e t h l b = rw (eq-eqb (length exc) 194 e, eq-eqb (length target) 40 t, eq-eqb (length hs) 40 h, lt-ltb low end l, le-leb end 148 b)

@@ -3,11 +3,11 @@
 
 ghost use Rattle.std.specs.Prelude.{true, cond, ◌≡◌, ◌+◌, ◌-◌, ◌*◌, ◌/◌, ◌^◌, ◌<◌, ◌≤◌, min, leb, pos, nat_abs, length};
 ghost use Rattle.std.specs.Int.Signed.{lt_z};
-ghost use Rattle.fixed.specs.Operators.{L-shl, extract-h, Mpy-32};
+ghost use Rattle.fixed.specs.Operators.{L_shl, extract_h, Mpy_32};
 ghost use Rattle.fixed.specs.Lists.{at, tabulate, part, between, dot};
 ghost use Rattle.sums.specs.Plain.{squared, weighed};
-ghost use Rattle.energy.specs.Root.{Inv-sqrt, inverses};
-ghost use Rattle.pitch_correlation.specs.Correlations.{scaled, scaled-all, update, correlations-from, Norm-Corr};
+ghost use Rattle.energy.specs.Root.{Inv_sqrt, inverses};
+ghost use Rattle.pitch_correlation.specs.Correlations.{scaled, scaled_all, update, correlations_from, Norm_Corr};
 
 use sums::EnergyAndSum;
 
@@ -63,7 +63,7 @@ fn scaled(v: i16, loud: bool) -> i16
 }
 
 fn scaled_all(convolved: &[i16; 40], loud: bool) -> [i16; 40]
-    ensures { result ≡ scaled-all loud convolved.now }
+    ensures { result ≡ scaled_all loud convolved.now }
 {
     if loud {
         return sums::shifted40(convolved, -2);
@@ -160,7 +160,7 @@ fn plain_walk(filtered: &[i16; 40], target: &[i16; 40]) -> EnergyAndSum
 
 fn normalized(energy: i32, sum: i32, roots: &[u16; 49]) -> i16
     requires { roots.now ≡ inverses }
-    ensures { result ≡ extract-h (L-shl (Mpy-32 sum (Inv-sqrt energy)) (pos 16)) }
+    ensures { result ≡ extract_h (L_shl (Mpy_32 sum (Inv_sqrt energy)) (pos 16)) }
 {
     let root = energy::inverse_sqrt_in(energy, roots);
     fixed::clip16(compound::multiply(sum, root))
@@ -174,7 +174,7 @@ pub fn normalized_correlation(
     low: usize,
     end: usize,
 ) -> [i16; 148]
-    ensures { result ≡ Norm-Corr excitation.now target.now impulse.now low end }
+    ensures { result ≡ Norm_Corr excitation.now target.now impulse.now low end }
 {
     if (excitation.len() == EXCITATION_SAMPLES)
         & (target.len() == SUBFRAME_SAMPLES)
@@ -209,7 +209,7 @@ fn correlated(
     end: usize,
 ) -> [i16; 148]
     requires { (length excitation.now ≡ 194) × (low < end) × (end ≤ 148) }
-    ensures { result ≡ correlations-from first.now excitation.now target.now impulse.now low end }
+    ensures { result ≡ correlations_from first.now excitation.now target.now impulse.now low end }
 {
     let roots = energy::inverse_table();
     let squares = sums::squares40(first);

@@ -1,20 +1,20 @@
 -- TS 26.073 Pitch_fr as 01 has it: one search, what it answers and the searcher after it.
 use Rattle.std.specs.Prelude.{List, [], ◌∷◌, ℕ, ℤ}
 use Rattle.refusal.specs.Refused.{Told, values, turned_down}
-use Rattle.refusal.specs.Checks.{Check, Outcome, unless-refused, length-is, known-subframe, open-loop-lag, in_order}
+use Rattle.refusal.specs.Checks.{Check, Outcome, unless_refused, length_is, known_subframe, open_loop_lag, in_order}
 use Rattle.pitch.specs.declared.Subframe.TheVariants.{One}
 use Rattle.pitch.specs.declared.PitchLag.{PitchLag}
-use Rattle.pitch.specs.Kinds.{subframe-number, following, fresh-lag}
+use Rattle.pitch.specs.Kinds.{subframe_number, following, fresh_lag}
 use Rattle.pitch.specs.Indexes.{index_of}
-use Rattle.pitch_window.specs.Windows.{start_of, pitch-in}
+use Rattle.pitch_window.specs.Windows.{start_of, pitch_in}
 use Rattle.pitch_search.specs.declared.SearchedPitch.{SearchedPitch}
 use Rattle.pitch_search.specs.declared.Found.{Found}
 use Rattle.pitch_search.specs.declared.Found.TheVariants.{Pitch, Refused}
 use Rattle.pitch_search.specs.declared.Search.{Search}
 
 -- 'Fresh searcher and fresh reader: previous lag 40, expecting 1'
-abbrev pub fresh-search : Search
-fresh-search = record { previous = fresh-lag; next = One }
+abbrev pub fresh_search : Search
+fresh_search = record { previous = fresh_lag; next = One }
 
 -- an answer as 01 gives it
 abbrev pub told : Found → Told SearchedPitch
@@ -33,15 +33,15 @@ found_at s start l =
 abbrev pub accepted : Search → List ℤ → List ℤ → List ℤ → ℕ → ℕ → Outcome SearchedPitch Search
 accepted s exc target hs first second =
     let start = start_of s.next s.previous.samples first second in
-    found_at s start (pitch-in s.next start exc target hs)
+    found_at s start (pitch_in s.next start exc target hs)
 
 -- 01, numbers 1 to 4 in checking order
-abbrev pub search-checks : Search → List ℤ → List ℤ → List ℤ → ℕ → ℕ → ℕ → List Check
-search-checks s exc target hs first second n =
-    length-is 194 exc ∷ length-is 40 target ∷ length-is 40 hs ∷ known-subframe n ∷ open-loop-lag first ∷ open-loop-lag second
-    ∷ in_order (subframe-number s.next) n ∷ []
+abbrev pub search_checks : Search → List ℤ → List ℤ → List ℤ → ℕ → ℕ → ℕ → List Check
+search_checks s exc target hs first second n =
+    length_is 194 exc ∷ length_is 40 target ∷ length_is 40 hs ∷ known_subframe n ∷ open_loop_lag first ∷ open_loop_lag second
+    ∷ in_order (subframe_number s.next) n ∷ []
 
 -- Pitch_fr behind 01's checks: the answer, and the searcher after it
-unfoldable pub Pitch-fr : Search → List ℤ → List ℤ → List ℤ → ℕ → ℕ → ℕ → Outcome SearchedPitch Search
-Pitch-fr s exc target hs first second n =
-    unless-refused (search-checks s exc target hs first second n) s (accepted s exc target hs first second)
+unfoldable pub Pitch_fr : Search → List ℤ → List ℤ → List ℤ → ℕ → ℕ → ℕ → Outcome SearchedPitch Search
+Pitch_fr s exc target hs first second n =
+    unless_refused (search_checks s exc target hs first second n) s (accepted s exc target hs first second)

@@ -4,7 +4,7 @@
 ghost use Rattle.std.specs.Prelude.{◌≡◌};
 ghost use Rattle.refusal.specs.Refused.{values, turned_down};
 ghost use Rattle.pitch.specs.Kinds.{following};
-ghost use Rattle.pitch_search.specs.Searches.{fresh-search, told, accepted, Pitch-fr};
+ghost use Rattle.pitch_search.specs.Searches.{fresh_search, told, accepted, Pitch_fr};
 
 use pitch::{OpenLoop, OpenLoopLag, PitchLag, Subframe};
 use refusal::Refusal;
@@ -41,7 +41,7 @@ pub struct SearchStep {
 
 impl Search {
     pub fn fresh() -> Self
-        ensures { result ≡ fresh-search }
+        ensures { result ≡ fresh_search }
     {
         let previous = pitch::fresh_lag();
         Search {
@@ -51,7 +51,7 @@ impl Search {
     }
 
     pub fn reset(self) -> Self
-        ensures { result ≡ fresh-search }
+        ensures { result ≡ fresh_search }
     {
         Search::fresh()
     }
@@ -66,8 +66,8 @@ impl Search {
         second: u16,
         subframe: u8,
     ) -> SearchStep
-        ensures { (told result.found ≡ (Pitch-fr self excitation.now target.now impulse_q12.now first second subframe).answer)
-            × (result.searcher ≡ (Pitch-fr self excitation.now target.now impulse_q12.now first second subframe).after) }
+        ensures { (told result.found ≡ (Pitch_fr self excitation.now target.now impulse_q12.now first second subframe).answer)
+            × (result.searcher ≡ (Pitch_fr self excitation.now target.now impulse_q12.now first second subframe).after) }
     {
         if excitation.len() != EXCITATION_SAMPLES {
             return self.refused(Refusal::Length(excitation.len()));

@@ -2,7 +2,7 @@
 #![tactic(auto)]
 
 ghost use Rattle.std.specs.Prelude.{◌≡◌};
-ghost use Rattle.pitch_search.specs.Searches.{told, Pitch-fr};
+ghost use Rattle.pitch_search.specs.Searches.{told, Pitch_fr};
 
 use pitch_search::{Found, Search};
 
@@ -16,8 +16,8 @@ pub fn search_lent<'s, 'a>(
     second: u16,
     subframe: u8,
 ) -> Found
-    ensures { (told result ≡ (Pitch-fr searcher.old excitation.now target.now impulse_q12.now first second subframe).answer)
-        × (searcher.new ≡ (Pitch-fr searcher.old excitation.now target.now impulse_q12.now first second subframe).after) }
+    ensures { (told result ≡ (Pitch_fr searcher.old excitation.now target.now impulse_q12.now first second subframe).answer)
+        × (searcher.new ≡ (Pitch_fr searcher.old excitation.now target.now impulse_q12.now first second subframe).after) }
 {
     let step = (*searcher).search(excitation, target, impulse_q12, first, second, subframe);
     *searcher = step.searcher;

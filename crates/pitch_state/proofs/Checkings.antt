@@ -9,29 +9,29 @@ use Rattle.refusal.specs.Refused.{Told, values, refused, number, detail}
 use Rattle.refusal.specs.Checks.{Check, checked}
 use Rattle.pitch_state.specs.declared.Known.{Known}
 use Rattle.pitch_state.specs.declared.Known.TheVariants.{All, Refused}
-use Rattle.pitch_state.specs.Calls.{told-known}
+use Rattle.pitch_state.specs.Calls.{told_known}
 
 module _ {A : Type 0} (refuse : ℕ → ℤ → A) (accepted : A) where
   abbrev by_answer : Told (Unit {0}) → A
   by_answer (values u) = accepted
   by_answer (refused n d) = refuse n d
 
-  by-checks : (cs : List Check) → by_answer (checked cs refused (values tt)) ≡ checked cs refuse accepted
-  by-checks [] = refl
-  by-checks (c ∷ cs) = go c.passes refl (by-checks cs)
+  by_checks : (cs : List Check) → by_answer (checked cs refused (values tt)) ≡ checked cs refuse accepted
+  by_checks [] = refl
+  by_checks (c ∷ cs) = go c.passes refl (by_checks cs)
     where
       go : (t : Bool) → c.passes ≡ t → by_answer (checked cs refused (values tt)) ≡ checked cs refuse accepted → by_answer (checked (c ∷ cs) refused (values tt)) ≡ checked (c ∷ cs) refuse accepted
       go true q rest = rw q rest
       go false q rest = rw q
 
-  module _ (cs : List Check) (k : Known) (e : told-known k ≡ checked cs refused (values tt)) where
-    by-known : by_answer (told-known k) ≡ checked cs refuse accepted
-    by-known = ap by_answer e ∙ by-checks cs
+  module _ (cs : List Check) (k : Known) (e : told_known k ≡ checked cs refused (values tt)) where
+    by_known : by_answer (told_known k) ≡ checked cs refuse accepted
+    by_known = ap by_answer e ∙ by_checks cs
 
     -- one fails
-    pub refused-by : {r : Refusal} → k ≡ Refused r → checked cs refuse accepted ≡ refuse (number r) (detail r)
-    refused-by g = sym by-known ∙ ap (λ (t : Known). by_answer (told-known t)) g
+    pub refused_by : {r : Refusal} → k ≡ Refused r → checked cs refuse accepted ≡ refuse (number r) (detail r)
+    refused_by g = sym by_known ∙ ap (λ (t : Known). by_answer (told_known t)) g
 
     -- all pass
-    pub accepted-by : k ≡ All → checked cs refuse accepted ≡ accepted
-    accepted-by g = sym by-known ∙ ap (λ (t : Known). by_answer (told-known t)) g
+    pub accepted_by : k ≡ All → checked cs refuse accepted ≡ accepted
+    accepted_by g = sym by_known ∙ ap (λ (t : Known). by_answer (told_known t)) g

@@ -5,43 +5,43 @@ use Rattle.pitch.specs.declared.Subframe.{Subframe}
 use Rattle.pitch.specs.declared.Subframe.TheVariants.{One, Two, Three, Four}
 use Rattle.pitch.specs.declared.PitchLag.{PitchLag}
 use Rattle.lag_reader.specs.declared.Reader.{Reader}
-use Rattle.pitch.specs.Kinds.{thirds, subframe-number}
-use Rattle.lag_reader.specs.Readers.{fresh-reader}
+use Rattle.pitch.specs.Kinds.{thirds, subframe_number}
+use Rattle.lag_reader.specs.Readers.{fresh_reader}
 use Rattle.pitch_search.specs.declared.Search.{Search}
 use Rattle.pitch_state.specs.declared.PitchState.{PitchState}
 
 -- the numbers of a lag and of the subframe expected after it
-abbrev pub in-numbers : PitchLag → Subframe → PitchState
-in-numbers previous next = record { samples = previous.samples; fraction = thirds previous.fraction; next = subframe-number next }
+abbrev pub in_numbers : PitchLag → Subframe → PitchState
+in_numbers previous next = record { samples = previous.samples; fraction = thirds previous.fraction; next = subframe_number next }
 
 -- so of a searcher
-abbrev pub searcher-numbers : Search → PitchState
-searcher-numbers s = in-numbers s.previous s.next
+abbrev pub searcher_numbers : Search → PitchState
+searcher_numbers s = in_numbers s.previous s.next
 
 -- and of a reader
-abbrev pub reader-numbers : Reader → PitchState
-reader-numbers r = in-numbers r.previous r.next
+abbrev pub reader_numbers : Reader → PitchState
+reader_numbers r = in_numbers r.previous r.next
 
 -- 01: 'Fresh searcher and fresh reader: previous lag 40, expecting 1'
-abbrev pub fresh-state : PitchState
-fresh-state = reader-numbers fresh-reader
+abbrev pub fresh_state : PitchState
+fresh_state = reader_numbers fresh_reader
 
 -- the subframe of a number; numbers outside 1 to 4 are refused before anything uses it
-abbrev pub subframe-of : ℕ → Subframe
-subframe-of zero = Four
-subframe-of (suc zero) = One
-subframe-of (suc (suc zero)) = Two
-subframe-of (suc (suc (suc zero))) = Three
-subframe-of (suc (suc (suc (suc n)))) = Four
+abbrev pub subframe_of : ℕ → Subframe
+subframe_of zero = Four
+subframe_of (suc zero) = One
+subframe_of (suc (suc zero)) = Two
+subframe_of (suc (suc (suc zero))) = Three
+subframe_of (suc (suc (suc (suc n)))) = Four
 
 -- the previous lag: no answer depends on its fraction, so any number is taken for one
-abbrev pub previous-of : PitchState → PitchLag
-previous-of s = record { samples = s.samples; fraction = Zero }
+abbrev pub previous_of : PitchState → PitchLag
+previous_of s = record { samples = s.samples; fraction = Zero }
 
 -- the searcher
-abbrev pub searcher-of : PitchState → Search
-searcher-of s = record { previous = previous-of s; next = subframe-of s.next }
+abbrev pub searcher_of : PitchState → Search
+searcher_of s = record { previous = previous_of s; next = subframe_of s.next }
 
 -- and the reader
-abbrev pub reader-of : PitchState → Reader
-reader-of s = record { previous = previous-of s; next = subframe-of s.next }
+abbrev pub reader_of : PitchState → Reader
+reader_of s = record { previous = previous_of s; next = subframe_of s.next }

@@ -4,10 +4,10 @@
 ghost use Rattle.std.specs.Prelude.{◌≡◌};
 ghost use Rattle.refusal.specs.Refused.{values, refused};
 ghost use Rattle.refusal.specs.Checks.{checked, within};
-ghost use Rattle.lag_reader.specs.Readers.{told-reading};
+ghost use Rattle.lag_reader.specs.Readers.{told_reading};
 ghost use Rattle.pitch_search.specs.Searches.{told};
-ghost use Rattle.pitch_state.specs.States.{subframe-of, in-numbers, searcher-numbers, reader-numbers, searcher-of, reader-of, fresh-state};
-ghost use Rattle.pitch_state.specs.Calls.{told-known, known-subframes, call-checks, search-in-numbers, read-in-numbers};
+ghost use Rattle.pitch_state.specs.States.{subframe_of, in_numbers, searcher_numbers, reader_numbers, searcher_of, reader_of, fresh_state};
+ghost use Rattle.pitch_state.specs.Calls.{told_known, known_subframes, call_checks, search_in_numbers, read_in_numbers};
 
 use lag_reader::{Reader, Reading};
 use pitch::{Fraction, PitchLag, Subframe};
@@ -24,7 +24,7 @@ pub struct PitchState {
 }
 
 pub fn fresh() -> PitchState
-    ensures { result ≡ fresh-state }
+    ensures { result ≡ fresh_state }
 {
     PitchState {
         samples: 40,
@@ -34,7 +34,7 @@ pub fn fresh() -> PitchState
 }
 
 pub fn searcher_numbers(searcher: Search) -> PitchState
-    ensures { result ≡ searcher-numbers searcher }
+    ensures { result ≡ searcher_numbers searcher }
 {
     let previous = searcher.previous;
     let next = searcher.next;
@@ -42,7 +42,7 @@ pub fn searcher_numbers(searcher: Search) -> PitchState
 }
 
 pub fn reader_numbers(reader: Reader) -> PitchState
-    ensures { result ≡ reader-numbers reader }
+    ensures { result ≡ reader_numbers reader }
 {
     let previous = reader.previous;
     let next = reader.next;
@@ -50,7 +50,7 @@ pub fn reader_numbers(reader: Reader) -> PitchState
 }
 
 fn in_numbers(previous: PitchLag, next: Subframe) -> PitchState
-    ensures { result ≡ in-numbers previous next }
+    ensures { result ≡ in_numbers previous next }
 {
     let fraction = previous.fraction;
     PitchState {
@@ -61,7 +61,7 @@ fn in_numbers(previous: PitchLag, next: Subframe) -> PitchState
 }
 
 pub fn searcher_of(state: PitchState) -> Search
-    ensures { result ≡ searcher-of state }
+    ensures { result ≡ searcher_of state }
 {
     Search {
         previous: PitchLag {
@@ -73,7 +73,7 @@ pub fn searcher_of(state: PitchState) -> Search
 }
 
 pub fn reader_of(state: PitchState) -> Reader
-    ensures { result ≡ reader-of state }
+    ensures { result ≡ reader_of state }
 {
     Reader {
         previous: PitchLag {
@@ -85,7 +85,7 @@ pub fn reader_of(state: PitchState) -> Reader
 }
 
 fn subframe_of(number: u8) -> Subframe
-    ensures { result ≡ subframe-of number }
+    ensures { result ≡ subframe_of number }
 {
     match number {
         1 => Subframe::One,
@@ -105,7 +105,7 @@ pub enum Known {
 
 // The subframe number of a call, then the one that its state expects.
 pub fn known_subframes(subframe: u8, next: u8) -> Known
-    ensures { told-known result ≡ checked (known-subframes subframe next) refused (values tt) }
+    ensures { told_known result ≡ checked (known_subframes subframe next) refused (values tt) }
 {
     if !is_subframe(subframe) {
         return Known::Refused(Refusal::Subframe(subframe));
@@ -129,7 +129,7 @@ fn known_call(
     impulse_q12: &[i16],
     subframe: u8,
 ) -> Known
-    ensures { told-known result ≡ checked (call-checks state excitation.now target.now impulse_q12.now subframe) refused (values tt) }
+    ensures { told_known result ≡ checked (call_checks state excitation.now target.now impulse_q12.now subframe) refused (values tt) }
 {
     if excitation.len() != 194 {
         return Known::Refused(Refusal::Length(excitation.len()));
@@ -160,8 +160,8 @@ pub fn search(
     second: u16,
     subframe: u8,
 ) -> StateSearch
-    ensures { (told result.found ≡ (search-in-numbers state excitation.now target.now impulse_q12.now first second subframe).answer)
-        × (result.state ≡ (search-in-numbers state excitation.now target.now impulse_q12.now first second subframe).after) }
+    ensures { (told result.found ≡ (search_in_numbers state excitation.now target.now impulse_q12.now first second subframe).answer)
+        × (result.state ≡ (search_in_numbers state excitation.now target.now impulse_q12.now first second subframe).after) }
 {
     let known = known_call(state, excitation, target, impulse_q12, subframe);
     if let Known::Refused(refusal) = known {
@@ -193,7 +193,7 @@ pub struct StateReading {
 }
 
 pub fn read(state: PitchState, subframe: u8, index: u8) -> StateReading
-    ensures { (told-reading result.reading ≡ (read-in-numbers state subframe index).answer) × (result.state ≡ (read-in-numbers state subframe index).after) }
+    ensures { (told_reading result.reading ≡ (read_in_numbers state subframe index).answer) × (result.state ≡ (read_in_numbers state subframe index).after) }
 {
     let known = known_subframes(subframe, state.next);
     if let Known::Refused(refusal) = known {

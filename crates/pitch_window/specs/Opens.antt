@@ -1,8 +1,8 @@
 -- One name for an `unfolding` line that computes the definitions of this crate.
-use Rattle.pitch_correlation.specs.Opens.{correlation-opens}
-use Rattle.pitch_choice.specs.Opens.{pitch-choice-opens}
-use Rattle.pitch_window.specs.Windows.{pitch-in}
+use Rattle.pitch_correlation.specs.Opens.{correlation_opens}
+use Rattle.pitch_choice.specs.Opens.{pitch_choice_opens}
+use Rattle.pitch_window.specs.Windows.{pitch_in}
 
-unfoldable pub window-opens : Unit {0}
-unfolding correlation-opens pitch-choice-opens pitch-in
-window-opens = tt
+unfoldable pub window_opens : Unit {0}
+unfolding correlation_opens pitch_choice_opens pitch_in
+window_opens = tt

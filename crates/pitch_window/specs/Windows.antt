@@ -4,22 +4,22 @@ use Rattle.pitch.specs.declared.Subframe.{Subframe}
 use Rattle.pitch.specs.declared.Subframe.TheVariants.{One, Two, Three, Four}
 use Rattle.pitch.specs.declared.PitchLag.{PitchLag}
 use Rattle.pitch.specs.Kinds.{absolute}
-use Rattle.pitch.specs.Windows.{handset, absolute-start, relative-start}
-use Rattle.pitch_correlation.specs.Correlations.{Norm-Corr}
+use Rattle.pitch.specs.Windows.{handset, absolute_start, relative_start}
+use Rattle.pitch_correlation.specs.Correlations.{Norm_Corr}
 use Rattle.pitch_choice.specs.Choices.{chosen}
 
 -- the window's start: 'the centre is the first open-loop lag for subframe 1, the second for 3', the previous whole lag for 2 and 4
 abbrev pub start_of : Subframe → ℕ → ℕ → ℕ → ℕ
-start_of One previous first second = absolute-start handset first
-start_of Two previous first second = relative-start handset previous
-start_of Three previous first second = absolute-start handset second
-start_of Four previous first second = relative-start handset previous
+start_of One previous first second = absolute_start handset first
+start_of Two previous first second = relative_start handset previous
+start_of Three previous first second = absolute_start handset second
+start_of Four previous first second = relative_start handset previous
 
 -- how many lags a window has, less one
 abbrev pub span_of : Subframe → ℕ
 span_of s = cond (absolute s) 6 9
 
 -- the lag and the fraction chosen in a window; the correlations go 4 lags further at each side, and are those of Norm_Corr for lists of 194, 40 and 40 words
-unfoldable pub pitch-in : Subframe → ℕ → List ℤ → List ℤ → List ℤ → PitchLag
-pitch-in s start exc target hs =
-    chosen (absolute s) (Norm-Corr exc target hs (start - 4) (start + span_of s + 4 + 1)) start (span_of s)
+unfoldable pub pitch_in : Subframe → ℕ → List ℤ → List ℤ → List ℤ → PitchLag
+pitch_in s start exc target hs =
+    chosen (absolute s) (Norm_Corr exc target hs (start - 4) (start + span_of s + 4 + 1)) start (span_of s)

@@ -2,7 +2,7 @@
 #![tactic(auto)]
 
 ghost use Rattle.std.specs.Prelude.{◌≡◌, ◌+◌, ◌≤◌};
-ghost use Rattle.pitch_window.specs.Windows.{start_of, span_of, pitch-in};
+ghost use Rattle.pitch_window.specs.Windows.{start_of, span_of, pitch_in};
 
 use pitch::{PitchLag, Subframe};
 
@@ -34,7 +34,7 @@ pub fn chosen_lag(
     target: &[i16],
     impulse: &[i16],
 ) -> PitchLag
-    ensures { result ≡ pitch-in subframe (start_of subframe previous first second) excitation.now target.now impulse.now }
+    ensures { result ≡ pitch_in subframe (start_of subframe previous first second) excitation.now target.now impulse.now }
 {
     let start = window_start(subframe, previous, first, second);
     pitch_in(subframe, start, excitation, target, impulse)
@@ -48,7 +48,7 @@ fn pitch_in(
     impulse: &[i16],
 ) -> PitchLag
     requires { (20 ≤ start) × (start + span_of subframe ≤ 143) }
-    ensures { result ≡ pitch-in subframe start excitation.now target.now impulse.now }
+    ensures { result ≡ pitch_in subframe start excitation.now target.now impulse.now }
 {
     let span = span(subframe);
     let first = start as usize;

@@ -5,17 +5,17 @@ use Rattle.refusal.specs.Refused.{Told, values, put}
 use Rattle.logarithm.specs.Powers.{Pow2}
 use Rattle.pitch.specs.declared.PitchLag.{PitchLag}
 use Rattle.pitch.specs.Kinds.{thirds}
-use Rattle.pitch.specs.Windows.{handset, relative-start}
-use Rattle.pitch.specs.Indexes.{absolute-index, absolute-lag, relative-lag}
-use Rattle.open_loop.specs.Detectors.{fresh-detector, Pitch-ol}
+use Rattle.pitch.specs.Windows.{handset, relative_start}
+use Rattle.pitch.specs.Indexes.{absolute_index, absolute_lag, relative_lag}
+use Rattle.open_loop.specs.Detectors.{fresh_detector, Pitch_ol}
 use Rattle.pitch_search.specs.declared.Search.{Search}
-use Rattle.pitch_search.specs.Searches.{fresh-search, Pitch-fr}
+use Rattle.pitch_search.specs.Searches.{fresh_search, Pitch_fr}
 use Rattle.refusal.specs.Checks.{Outcome}
 use Rattle.codebook_code.specs.declared.PulseWords.{PulseWords}
 use Rattle.codebook_search.specs.Pulses.{Lists, lent, pulses}
-use Rattle.gain_pitch.specs.Gains.{pitch-gain}
+use Rattle.gain_pitch.specs.Gains.{pitch_gain}
 use Rattle.gain.specs.Rows.{quantize}
-use Rattle.selection_answers.specs.Lines.{Line, none, line, open-line, pitch-line, pulse-line, gain-line}
+use Rattle.selection_answers.specs.Lines.{Line, none, line, open_line, pitch_line, pulse_line, gain_line}
 
 pub data Question : Type 0 where
   -- `pow2`: exponent and fraction
@@ -41,28 +41,28 @@ abbrev pub printed : Line → List ℤ
 printed none = []
 printed (line name fields) = fields
 
-abbrev pub lag-numbers : PitchLag → List ℤ
-lag-numbers l = pos l.samples ∷ thirds l.fraction ∷ []
+abbrev pub lag_numbers : PitchLag → List ℤ
+lag_numbers l = pos l.samples ∷ thirds l.fraction ∷ []
 
 -- the searcher after searches of a list of subframes
-abbrev pub searched-after : List ℕ → List ℤ → List ℤ → List ℤ → ℕ → ℕ → Search → Search
-searched-after [] exc target hs first second s = s
-searched-after (n ∷ ns) exc target hs first second s = searched-after ns exc target hs first second (Pitch-fr s exc target hs first second n).after
+abbrev pub searched_after : List ℕ → List ℤ → List ℤ → List ℤ → ℕ → ℕ → Search → Search
+searched_after [] exc target hs first second s = s
+searched_after (n ∷ ns) exc target hs first second s = searched_after ns exc target hs first second (Pitch_fr s exc target hs first second n).after
 
 -- a pulse search into lists of 40 zeros
-abbrev pub pulse-search : List ℤ → List ℤ → ℕ → ℤ → Outcome PulseWords Lists
-pulse-search target hs lag gain = pulses target hs lag (record { 0 = gain }) (lent (replicate 40 (pos 0)) (replicate 40 (pos 0)) (replicate 40 (pos 0)))
+abbrev pub pulse_search : List ℤ → List ℤ → ℕ → ℤ → Outcome PulseWords Lists
+pulse_search target hs lag gain = pulses target hs lag (record { 0 = gain }) (lent (replicate 40 (pos 0)) (replicate 40 (pos 0)) (replicate 40 (pos 0)))
 
 unfoldable pub answer : Question → Told (List ℤ)
 answer (powerOfTwo e f) = put (λ v. v ∷ []) (Pow2 e f)
-answer (absoluteReading index) = values (lag-numbers (absolute-lag index))
-answer (relativeReading previous index) = values (lag-numbers (relative-lag (relative-start handset previous) index))
-answer (absoluteIndex l) = values (pos (absolute-index l) ∷ [])
-answer (openLoop samples) = put (λ l. printed (open-line l)) (Pitch-ol fresh-detector samples).answer
+answer (absoluteReading index) = values (lag_numbers (absolute_lag index))
+answer (relativeReading previous index) = values (lag_numbers (relative_lag (relative_start handset previous) index))
+answer (absoluteIndex l) = values (pos (absolute_index l) ∷ [])
+answer (openLoop samples) = put (λ l. printed (open_line l)) (Pitch_ol fresh_detector samples).answer
 answer (pitchAfter ns exc target hs first second n) =
-    put (λ p. printed (pitch-line p)) (Pitch-fr (searched-after ns exc target hs first second fresh-search) exc target hs first second n).answer
-answer (pulseWords target hs lag gain) = put (λ w. printed (pulse-line w)) (pulse-search target hs lag gain).answer
-answer (innovationAt places target hs lag gain) = put (λ w. map (at (pulse-search target hs lag gain).after.innovation) places) (pulse-search target hs lag gain).answer
-answer (pitchGain target adaptive) = put (λ g. g.gain_q14 ∷ []) (pitch-gain target adaptive)
+    put (λ p. printed (pitch_line p)) (Pitch_fr (searched_after ns exc target hs first second fresh_search) exc target hs first second n).answer
+answer (pulseWords target hs lag gain) = put (λ w. printed (pulse_line w)) (pulse_search target hs lag gain).answer
+answer (innovationAt places target hs lag gain) = put (λ w. map (at (pulse_search target hs lag gain).after.innovation) places) (pulse_search target hs lag gain).answer
+answer (pitchGain target adaptive) = put (λ g. g.gain_q14 ∷ []) (pitch_gain target adaptive)
 answer (gainRow target adaptive filtered exponent fraction limit) =
-    put (λ q. printed (gain-line q)) (quantize target adaptive filtered exponent fraction limit)
+    put (λ q. printed (gain_line q)) (quantize target adaptive filtered exponent fraction limit)

@@ -4,22 +4,22 @@ use mathlib.Core.List.{map}
 use mathlib.Core.Logic.{inl, inr}
 use lib.Dec.{leb→le, lit<}
 use borrow.Author.Tests.{eqb-false}
-use Rattle.lag_reader.specs.Opens.{reader-opens}
-use Rattle.pitch_search.specs.Opens.{search-opens}
-use Rattle.recovery.specs.Runs.{Step, fresh-state, run}
-use Rattle.recovery.specs.Statement.{none, Within-width, Stray, Each}
+use Rattle.lag_reader.specs.Opens.{reader_opens}
+use Rattle.pitch_search.specs.Opens.{search_opens}
+use Rattle.recovery.specs.Runs.{Step, fresh_state, run}
+use Rattle.recovery.specs.Statement.{none, WithinWidth, Stray, Each}
 use Rattle.recovery.specs.Example.{example, happens, Example}
 
-events : map (λ (s : Step). s.event) (run fresh-state example) ≡ happens
-unfolding run example happens search-opens reader-opens
+events : map (λ (s : Step). s.event) (run fresh_state example) ≡ happens
+unfolding run example happens search_opens reader_opens
 events = refl
 
-widths : Each Within-width none (run fresh-state example)
-unfolding run example search-opens reader-opens
+widths : Each WithinWidth none (run fresh_state example)
+unfolding run example search_opens reader_opens
 widths = (leb→le _ _ tt, (tt, (tt, (leb→le _ _ tt, (tt, (leb→le _ _ tt, (leb→le _ _ tt, (tt, (leb→le _ _ tt, (leb→le _ _ tt, tt))))))))))
 
-strays : Each Stray none (run fresh-state example)
-unfolding run example search-opens reader-opens
+strays : Each Stray none (run fresh_state example)
+unfolding run example search_opens reader_opens
 strays = (tt, (inl (eqb-false 3 2 refl), (inr (inl refl, lit< tt), (tt, (tt, (tt, (tt, (tt, (tt, (tt, tt))))))))))
 
 pub exemplified : Example

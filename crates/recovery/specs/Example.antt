@@ -3,8 +3,8 @@ use Rattle.std.specs.Prelude.{◌≡◌, List, [], ◌∷◌, map, ℕ, pos, rep
 use Rattle.refusal.specs.Refused.{values, refused}
 use Rattle.pitch.specs.declared.Fraction.TheVariants.{Zero, PlusThird}
 use Rattle.pitch.specs.declared.PitchLag.{PitchLag}
-use Rattle.recovery.specs.Runs.{Input, Entry, search, reset, stray, Event, at_place, search-refused, made-fresh, strayed, Step, fresh-state, run}
-use Rattle.recovery.specs.Statement.{none, Within-width, Stray, Each}
+use Rattle.recovery.specs.Runs.{Input, Entry, search, reset, stray, Event, at_place, search_refused, made_fresh, strayed, Step, fresh_state, run}
+use Rattle.recovery.specs.Statement.{none, WithinWidth, Stray, Each}
 
 -- such a search
 abbrev pub silent : ℕ → Input
@@ -33,31 +33,31 @@ example =
     ∷ []
 
 -- the lags that the searches answer in subframes 1 and 3, and in 2 and 4
-abbrev pub lag-82 : PitchLag
-lag-82 = record { samples = 82; fraction = PlusThird }
+abbrev pub lag_82 : PitchLag
+lag_82 = record { samples = 82; fraction = PlusThird }
 
-abbrev pub lag-85 : PitchLag
-lag-85 = record { samples = 85; fraction = PlusThird }
+abbrev pub lag_85 : PitchLag
+lag_85 = record { samples = 85; fraction = PlusThird }
 
 -- what happens: the damaged 5 in subframe 2 is read as 78, and subframes 3 and 4 are recovered after it; the damaged 0 in subframe 1 is read as 19, and the
 -- intact 27 that directly follows it as 28 and not as 85
 unfoldable pub happens : List Event
 happens =
-    at_place (record { subframe = 1; sent = record { lag = lag-82; index = 189 }; arrived = 189; reading = values lag-82 })
+    at_place (record { subframe = 1; sent = record { lag = lag_82; index = 189 }; arrived = 189; reading = values lag_82 })
     ∷ strayed 3 0 (refused 4 (pos 2))
     ∷ strayed 2 32 (refused 5 (pos 32))
-    ∷ at_place (record { subframe = 2; sent = record { lag = lag-85; index = 27 }; arrived = 5; reading = values (record { samples = 78; fraction = Zero }) })
-    ∷ search-refused 4 (pos 3)
-    ∷ at_place (record { subframe = 3; sent = record { lag = lag-82; index = 189 }; arrived = 189; reading = values lag-82 })
-    ∷ at_place (record { subframe = 4; sent = record { lag = lag-85; index = 27 }; arrived = 27; reading = values lag-85 })
-    ∷ made-fresh
-    ∷ at_place (record { subframe = 1; sent = record { lag = lag-82; index = 189 }; arrived = 0; reading = values (record { samples = 19; fraction = PlusThird }) })
-    ∷ at_place (record { subframe = 2; sent = record { lag = lag-85; index = 27 }; arrived = 27; reading = values (record { samples = 28; fraction = PlusThird }) })
+    ∷ at_place (record { subframe = 2; sent = record { lag = lag_85; index = 27 }; arrived = 5; reading = values (record { samples = 78; fraction = Zero }) })
+    ∷ search_refused 4 (pos 3)
+    ∷ at_place (record { subframe = 3; sent = record { lag = lag_82; index = 189 }; arrived = 189; reading = values lag_82 })
+    ∷ at_place (record { subframe = 4; sent = record { lag = lag_85; index = 27 }; arrived = 27; reading = values lag_85 })
+    ∷ made_fresh
+    ∷ at_place (record { subframe = 1; sent = record { lag = lag_82; index = 189 }; arrived = 0; reading = values (record { samples = 19; fraction = PlusThird }) })
+    ∷ at_place (record { subframe = 2; sent = record { lag = lag_85; index = 27 }; arrived = 27; reading = values (record { samples = 28; fraction = PlusThird }) })
     ∷ []
 
 -- the example happens so, and meets both hypotheses
 unfoldable pub Example : Type 0
 Example =
-    (map (λ (s : Step). s.event) (run fresh-state example) ≡ happens)
-    × Each Within-width none (run fresh-state example)
-    × Each Stray none (run fresh-state example)
+    (map (λ (s : Step). s.event) (run fresh_state example) ≡ happens)
+    × Each WithinWidth none (run fresh_state example)
+    × Each Stray none (run fresh_state example)

@@ -4,10 +4,10 @@ use Rattle.refusal.specs.Refused.{Told, values, refused}
 use Rattle.refusal.specs.Checks.{Outcome}
 use Rattle.pitch.specs.declared.PitchLag.{PitchLag}
 use Rattle.lag_reader.specs.declared.Reader.{Reader}
-use Rattle.lag_reader.specs.Readers.{fresh-reader, read}
+use Rattle.lag_reader.specs.Readers.{fresh_reader, read}
 use Rattle.pitch_search.specs.declared.Search.{Search}
 use Rattle.pitch_search.specs.declared.SearchedPitch.{SearchedPitch}
-use Rattle.pitch_search.specs.Searches.{fresh-search, Pitch-fr}
+use Rattle.pitch_search.specs.Searches.{fresh_search, Pitch_fr}
 
 -- what a pitch search is handed
 pub record Input : Type 0 where
@@ -33,8 +33,8 @@ pub record State : Type 0 where
   pub reader : Reader
 
 -- at the start, and after a reset
-abbrev pub fresh-state : State
-fresh-state = record { searcher = fresh-search; reader = fresh-reader }
+abbrev pub fresh_state : State
+fresh_state = record { searcher = fresh_search; reader = fresh_reader }
 
 -- 01: 'place', a search that numbers 1 to 4 let through: what it answered, what arrived, and what the reader, called once, answered
 pub record Place : Type 0 where
@@ -46,8 +46,8 @@ pub record Place : Type 0 where
 -- what happens at an entry
 pub data Event : Type 0 where
   at_place : Place → Event
-  search-refused : ℕ → ℤ → Event
-  made-fresh : Event
+  search_refused : ℕ → ℤ → Event
+  made_fresh : Event
   strayed : ℕ → ℕ → Told PitchLag → Event
 
 -- an event, with searcher and reader before it and after it
@@ -64,16 +64,16 @@ answered σ n i s (values p) =
       event = at_place (record { subframe = n; sent = p; arrived = i; reading = (read σ.reader n i).answer });
       after = record { searcher = s; reader = (read σ.reader n i).after };
     }
-answered σ n i s (refused m d) = record { before = σ; event = search-refused m d; after = record { searcher = s; reader = σ.reader } }
+answered σ n i s (refused m d) = record { before = σ; event = search_refused m d; after = record { searcher = s; reader = σ.reader } }
 
 -- the search of an input
 abbrev pub searched : Search → Input → Outcome SearchedPitch Search
-searched s x = Pitch-fr s x.excitation x.target x.impulse x.first x.second x.subframe
+searched s x = Pitch_fr s x.excitation x.target x.impulse x.first x.second x.subframe
 
 -- one entry
 abbrev pub step : State → Entry → Step
 step σ (search x i) = answered σ x.subframe i (searched σ.searcher x).after (searched σ.searcher x).answer
-step σ reset = record { before = σ; event = made-fresh; after = fresh-state }
+step σ reset = record { before = σ; event = made_fresh; after = fresh_state }
 step σ (stray n i) =
     record {
       before = σ;

@@ -9,26 +9,26 @@ use lib.IntN.{ℤ}
 use Rattle.fixed.proofs.Clips.{contradiction}
 use Rattle.refusal.specs.declared.Refusal.{Refusal}
 use Rattle.refusal.specs.Refused.{Told, values, refused, accepts, number, detail, turned_down}
-use Rattle.refusal.specs.Checks.{Check, Outcome, checked, unless-refused}
+use Rattle.refusal.specs.Checks.{Check, Outcome, checked, unless_refused}
 
 abbrev pub Passes : List Check → Type 0
 Passes [] = Unit {0}
 Passes (c ∷ cs) = (c.passes ≡ true) × Passes cs
 
 -- the values of an answer, or a where it has none
-abbrev pub value-or : {A : Type 0} → A → Told A → A
-value-or a (values b) = b
-value-or a (refused n d) = a
+abbrev pub value_or : {A : Type 0} → A → Told A → A
+value_or a (values b) = b
+value_or a (refused n d) = a
 
 -- all pass: what is accepted
-pub passed-all : {A : Type 0} (refuse : ℕ → ℤ → A) (a : A) (cs : List Check) → Passes cs → checked cs refuse a ≡ a
-passed-all refuse a [] p = refl
-passed-all refuse a (c ∷ cs) (h, p) = rw h (passed-all refuse a cs p)
+pub passed_all : {A : Type 0} (refuse : ℕ → ℤ → A) (a : A) (cs : List Check) → Passes cs → checked cs refuse a ≡ a
+passed_all refuse a [] p = refl
+passed_all refuse a (c ∷ cs) (h, p) = rw h (passed_all refuse a cs p)
 
 -- values were told: all pass, and they are those
-pub accepted-all : {A : Type 0} (v w : A) (cs : List Check) → checked cs refused (values v) ≡ values w → Passes cs × (v ≡ w)
-accepted-all v w [] e = (tt, cc)
-accepted-all v w (c ∷ cs) e = go c.passes refl (accepted-all v w cs)
+pub accepted_all : {A : Type 0} (v w : A) (cs : List Check) → checked cs refused (values v) ≡ values w → Passes cs × (v ≡ w)
+accepted_all v w [] e = (tt, cc)
+accepted_all v w (c ∷ cs) e = go c.passes refl (accepted_all v w cs)
   where
     go : (t : Bool) → c.passes ≡ t → (checked cs refused (values v) ≡ values w → Passes cs × (v ≡ w)) → Passes (c ∷ cs) × (v ≡ w)
     go true q rest = let r = rest (rw q at e) in ((q, r.0), r.1)
@@ -36,21 +36,21 @@ accepted-all v w (c ∷ cs) e = go c.passes refl (accepted-all v w cs)
 
 module _ {A S : Type 0} (s : S) (a : Outcome A S) where
   -- all pass: what is accepted
-  pub passed : (cs : List Check) → Passes cs → unless-refused cs s a ≡ a
-  passed cs p = passed-all (λ n d. record { answer = refused n d; after = s }) a cs p
+  pub passed : (cs : List Check) → Passes cs → unless_refused cs s a ≡ a
+  passed cs p = passed_all (λ n d. record { answer = refused n d; after = s }) a cs p
 
   -- an answer with values: all pass
-  pub passes : (cs : List Check) → accepts (unless-refused cs s a).answer ≡ true → Passes cs
+  pub passes : (cs : List Check) → accepts (unless_refused cs s a).answer ≡ true → Passes cs
   passes [] e = tt
   passes (c ∷ cs) e = go c.passes refl (passes cs)
     where
-      go : (t : Bool) → c.passes ≡ t → (accepts (unless-refused cs s a).answer ≡ true → Passes cs) → (c.passes ≡ true) × Passes cs
+      go : (t : Bool) → c.passes ≡ t → (accepts (unless_refused cs s a).answer ≡ true → Passes cs) → (c.passes ≡ true) × Passes cs
       go true q rest = (q, rest (rw q at e))
       go false q rest = contradiction (rw q at e)
 
   -- not all pass: a refusal, and the state as it was
   abbrev Refuses : List Check → Type 0
-  Refuses cs = (accepts (unless-refused cs s a).answer ≡ false) × ((unless-refused cs s a).after ≡ s)
+  Refuses cs = (accepts (unless_refused cs s a).answer ≡ false) × ((unless_refused cs s a).after ≡ s)
 
   pub failed : (cs : List Check) → (Passes cs → ⊥) → Refuses cs
   failed [] n = absurd (n tt)
@@ -61,18 +61,18 @@ module _ {A S : Type 0} (s : S) (a : Outcome A S) where
       go false q rest = rw q (refl, refl)
 
   -- so a refusal leaves the state as it was, where what is accepted has values
-  pub kept : (cs : List Check) → accepts a.answer ≡ true → accepts (unless-refused cs s a).answer ≡ false → (unless-refused cs s a).after ≡ s
+  pub kept : (cs : List Check) → accepts a.answer ≡ true → accepts (unless_refused cs s a).answer ≡ false → (unless_refused cs s a).after ≡ s
   kept cs h e = (failed cs (λ p. contradiction (sym e ∙ ap (λ (o : Outcome A S). accepts o.answer) (passed cs p) ∙ h))).1
 
 -- one check by itself, for an entry that hands on what a callee told: where it accepted, the check passes and the values are its own
 module _ {A : Type 0} (c : Check) (v : A) where
-  pub accepted-alone : (w : A) → values w ≡ checked (c ∷ []) refused (values v) → (c.passes ≡ true) × (w ≡ v)
-  accepted-alone w e = let r = accepted-all v w (c ∷ []) (sym e) in (r.0.0, sym r.1)
+  pub accepted_alone : (w : A) → values w ≡ checked (c ∷ []) refused (values v) → (c.passes ≡ true) × (w ≡ v)
+  accepted_alone w e = let r = accepted_all v w (c ∷ []) (sym e) in (r.0.0, sym r.1)
 
   -- where it refused, so does a list that begins with the check, whatever follows it
-  pub refused-alone : {B : Type 0} (rest : Told B) (r : Refusal) →
+  pub refused_alone : {B : Type 0} (rest : Told B) (r : Refusal) →
       turned_down {A = A} r ≡ checked (c ∷ []) refused (values v) → turned_down r ≡ cond c.passes rest (refused c.number c.detail)
-  refused-alone rest r e = go c.passes refl
+  refused_alone rest r e = go c.passes refl
     where
       go : (t : Bool) → c.passes ≡ t → turned_down r ≡ cond c.passes rest (refused c.number c.detail)
       go true q = let f : turned_down {A = A} r ≡ values v = rw q at e in let z : ◌≡◌ {A = ℕ} 0 1 = cc in absurd (omega arith)
@@ -83,15 +83,15 @@ module _ {A : Type 0} (c : Check) (v : A) where
           rw (q, g, h)
 
 -- whose refusal it is: that of the first check that fails, and those before it pass
-abbrev pub Given-by : List Check → ℕ → ℤ → Type 0
-Given-by [] n d = ⊥
-Given-by (c ∷ cs) n d = ((c.passes ≡ false) × (c.number ≡ n) × (c.detail ≡ d)) ⊎ ((c.passes ≡ true) × Given-by cs n d)
+abbrev pub GivenBy : List Check → ℕ → ℤ → Type 0
+GivenBy [] n d = ⊥
+GivenBy (c ∷ cs) n d = ((c.passes ≡ false) × (c.number ≡ n) × (c.detail ≡ d)) ⊎ ((c.passes ≡ true) × GivenBy cs n d)
 
 module _ {A : Type 0} (v : A) (n : ℕ) (d : ℤ) where
-  pub given_by : (cs : List Check) → checked cs refused (values v) ≡ refused n d → Given-by cs n d
+  pub given_by : (cs : List Check) → checked cs refused (values v) ≡ refused n d → GivenBy cs n d
   given_by [] e = let z : ◌≡◌ {A = ℕ} 0 1 = cc in absurd (omega arith)
   given_by (c ∷ cs) e = go c.passes refl (given_by cs)
     where
-      go : (t : Bool) → c.passes ≡ t → (checked cs refused (values v) ≡ refused n d → Given-by cs n d) → Given-by (c ∷ cs) n d
+      go : (t : Bool) → c.passes ≡ t → (checked cs refused (values v) ≡ refused n d → GivenBy cs n d) → GivenBy (c ∷ cs) n d
       go true q rest = inr (q, rest (rw q at e))
       go false q rest = let f : ◌≡◌ {A = Told A} (refused c.number c.detail) (refused n d) = rw q at e in inl (q, cc, cc)

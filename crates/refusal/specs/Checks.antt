@@ -20,52 +20,52 @@ pub record Outcome (A S : Type 0) : Type 0 where
   pub after : S
 
 -- a refusal leaves the state as it was
-abbrev pub unless-refused : {A S : Type 0} → List Check → S → Outcome A S → Outcome A S
-unless-refused cs state accepted = checked cs (λ n d. record { answer = refused n d; after = state }) accepted
+abbrev pub unless_refused : {A S : Type 0} → List Check → S → Outcome A S → Outcome A S
+unless_refused cs state accepted = checked cs (λ n d. record { answer = refused n d; after = state }) accepted
 
 -- low to high, both included
 abbrev pub within : ℕ → ℕ → ℕ → Bool
 within low high n = leb low n && leb n high
 
 -- number 1: a lent list has the length that its stage needs
-abbrev pub length-is : ℕ → List ℤ → Check
-length-is n xs = record { passes = eqb (length xs) n; number = 1; detail = pos (length xs) }
+abbrev pub length_is : ℕ → List ℤ → Check
+length_is n xs = record { passes = eqb (length xs) n; number = 1; detail = pos (length xs) }
 
 -- number 2: a subframe number is 1 to 4
-abbrev pub known-subframe : ℕ → Check
-known-subframe n = record { passes = within 1 4 n; number = 2; detail = pos n }
+abbrev pub known_subframe : ℕ → Check
+known_subframe n = record { passes = within 1 4 n; number = 2; detail = pos n }
 
 -- and a limit choice 0 or 1
-abbrev pub known-limit : ℕ → Check
-known-limit n = record { passes = leb n 1; number = 2; detail = pos n }
+abbrev pub known_limit : ℕ → Check
+known_limit n = record { passes = leb n 1; number = 2; detail = pos n }
 
 -- number 3: an open-loop lag is 20 to 143
-abbrev pub open-loop-lag : ℕ → Check
-open-loop-lag n = record { passes = within 20 143 n; number = 3; detail = pos n }
+abbrev pub open_loop_lag : ℕ → Check
+open_loop_lag n = record { passes = within 20 143 n; number = 3; detail = pos n }
 
 -- number 4: the subframe n is the expected one
 abbrev pub in_order : ℕ → ℕ → Check
 in_order expected n = record { passes = eqb n expected; number = 4; detail = pos expected }
 
 -- number 6: the pulse stage's lag is 19 to 144
-abbrev pub pulse-lag : ℕ → Check
-pulse-lag n = record { passes = within 19 144 n; number = 6; detail = pos n }
+abbrev pub pulse_lag : ℕ → Check
+pulse_lag n = record { passes = within 19 144 n; number = 6; detail = pos n }
 
 -- number 7: the exponent of a power is at most 30
-abbrev pub power-exponent : ℕ → Check
-power-exponent n = record { passes = leb n 30; number = 7; detail = pos n }
+abbrev pub power_exponent : ℕ → Check
+power_exponent n = record { passes = leb n 30; number = 7; detail = pos n }
 
 -- a predicted one -128 to 127
-abbrev pub predicted-exponent : ℤ → Check
-predicted-exponent e = record { passes = le_z (negsuc 127) e && le_z e (pos 127); number = 7; detail = e }
+abbrev pub predicted_exponent : ℤ → Check
+predicted_exponent e = record { passes = le_z (negsuc 127) e && le_z e (pos 127); number = 7; detail = e }
 
 -- 02, number 14: 'a fraction above 32767 whose exponent is good, directly after 7'; of a power and of a prediction alike
-abbrev pub power-fraction : ℕ → Check
-power-fraction n = record { passes = leb n 32767; number = 14; detail = pos n }
+abbrev pub power_fraction : ℕ → Check
+power_fraction n = record { passes = leb n 32767; number = 14; detail = pos n }
 
 -- number 8: a position word is at most 8191
-abbrev pub position-word : ℕ → Check
-position-word n = record { passes = leb n 8191; number = 8; detail = pos n }
+abbrev pub position_word : ℕ → Check
+position_word n = record { passes = leb n 8191; number = 8; detail = pos n }
 
 -- and a sign word at most 15
 abbrev pub sign_word : ℕ → Check

@@ -37,9 +37,9 @@ detail (FeedEnd n) = pos n
 detail (Fraction n) = pos n
 
 -- the detail as the struct that holds it
-abbrev pub sign-magnitude : ℤ → Detail
-sign-magnitude (pos n) = record { negative = false; magnitude = n }
-sign-magnitude (negsuc n) = record { negative = true; magnitude = suc n }
+abbrev pub sign_magnitude : ℤ → Detail
+sign_magnitude (pos n) = record { negative = false; magnitude = n }
+sign_magnitude (negsuc n) = record { negative = true; magnitude = suc n }
 
 -- what an entry answers, told as 01 gives it and not as the struct or enum that holds it: its values, or a number and a detail
 pub data Told (A : Type 0) : Type 0 where

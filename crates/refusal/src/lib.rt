@@ -2,7 +2,7 @@
 #![tactic(auto)]
 
 ghost use Rattle.std.specs.Prelude.{◌≡◌, pos};
-ghost use Rattle.refusal.specs.Refused.{number, detail, sign-magnitude};
+ghost use Rattle.refusal.specs.Refused.{number, detail, sign_magnitude};
 
 #[derive(Clone, Copy)]
 pub enum Refusal {
@@ -61,7 +61,7 @@ impl Refusal {
     }
 
     pub fn detail(self) -> Detail
-        ensures { result ≡ sign-magnitude (detail self) }
+        ensures { result ≡ sign_magnitude (detail self) }
     {
         match self {
             Refusal::Length(n) => counted(n as u64),
@@ -82,7 +82,7 @@ impl Refusal {
 }
 
 fn counted(n: u64) -> Detail
-    ensures { result ≡ sign-magnitude (pos n) }
+    ensures { result ≡ sign_magnitude (pos n) }
 {
     Detail {
         negative: false,
@@ -91,7 +91,7 @@ fn counted(n: u64) -> Detail
 }
 
 fn signed(v: i16) -> Detail
-    ensures { result ≡ sign-magnitude v }
+    ensures { result ≡ sign_magnitude v }
 {
     Detail {
         negative: v < 0,

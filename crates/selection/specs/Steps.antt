@@ -3,14 +3,14 @@ use Rattle.std.specs.Prelude.{List, ℕ, zero, suc, ℤ}
 use Rattle.refusal.specs.Refused.{Told, values, refused}
 use Rattle.refusal.specs.Checks.{Outcome}
 use Rattle.lag_reader.specs.declared.Reader.{Reader}
-use Rattle.lag_reader.specs.Readers.{fresh-reader}
+use Rattle.lag_reader.specs.Readers.{fresh_reader}
 use Rattle.pitch_search.specs.declared.Search.{Search}
-use Rattle.pitch_search.specs.Searches.{fresh-search}
+use Rattle.pitch_search.specs.Searches.{fresh_search}
 use Rattle.open_loop.specs.declared.Detector.{Detector}
-use Rattle.open_loop.specs.Detectors.{fresh-detector}
+use Rattle.open_loop.specs.Detectors.{fresh_detector}
 use Rattle.feed.specs.Records.{Standing, nothing, whole, header, body}
-use Rattle.selection_answers.specs.Lines.{Line, none, reset-line, told-answer}
-use Rattle.selection_records.specs.Records.{half-frame, pitch, pulse, gain, filtering, lag-reading}
+use Rattle.selection_answers.specs.Lines.{Line, none, reset_line, told_answer}
+use Rattle.selection_records.specs.Records.{half_frame, pitch, pulse, gain, filtering, lag_reading}
 use Rattle.selection.specs.declared.LentStep.{LentStep}
 
 -- detector, searcher and reader
@@ -26,29 +26,29 @@ pub record Step : Type 0 where
   pub words : List ℤ
 
 -- all three as a step takes them: the detector as its old words
-abbrev pub selection-of : List ℤ → Search → Reader → Selection
-selection-of history searcher reader = record { detector = record { history_q0 = history }; searcher = searcher; reader = reader }
+abbrev pub selection_of : List ℤ → Search → Reader → Selection
+selection_of history searcher reader = record { detector = record { history_q0 = history }; searcher = searcher; reader = reader }
 
 -- the struct so told, with the two lent lists after it
-abbrev pub told-lent : LentStep → List ℤ → List ℤ → Step
-told-lent r history ws = record { answer = told-answer r.answer ws; after = selection-of history r.searcher r.reader; words = ws }
+abbrev pub told_lent : LentStep → List ℤ → List ℤ → Step
+told_lent r history ws = record { answer = told_answer r.answer ws; after = selection_of history r.searcher r.reader; words = ws }
 
 -- an answer, with what stays
 abbrev pub said : Selection → List ℤ → Told Line → Step
 said s ws a = record { answer = a; after = s; words = ws }
 
 -- all three fresh
-unfoldable pub fresh-selection : Selection
-fresh-selection = record { detector = fresh-detector; searcher = fresh-search; reader = fresh-reader }
+unfoldable pub fresh_selection : Selection
+fresh_selection = record { detector = fresh_detector; searcher = fresh_search; reader = fresh_reader }
 
 -- ---- the outcome of a record: its answer, and its state in place of the old one
 -- the detector's
-abbrev pub of-detector : Selection → List ℤ → Outcome Line Detector → Step
-of-detector s ws o = said (record { detector = o.after; searcher = s.searcher; reader = s.reader }) ws o.answer
+abbrev pub of_detector : Selection → List ℤ → Outcome Line Detector → Step
+of_detector s ws o = said (record { detector = o.after; searcher = s.searcher; reader = s.reader }) ws o.answer
 
 -- the searcher's
-abbrev pub of-searcher : Selection → List ℤ → Outcome Line Search → Step
-of-searcher s ws o = said (record { detector = s.detector; searcher = o.after; reader = s.reader }) ws o.answer
+abbrev pub of_searcher : Selection → List ℤ → Outcome Line Search → Step
+of_searcher s ws o = said (record { detector = s.detector; searcher = o.after; reader = s.reader }) ws o.answer
 
 -- the reader's
 abbrev pub of_reader : Selection → List ℤ → Outcome Line Reader → Step
@@ -60,24 +60,24 @@ of_words s o = said s o.after o.answer
 
 -- '0 reset of detector, searcher and reader'
 abbrev pub reset : Selection → List ℤ → Step
-reset s ws = said fresh-selection ws (values reset-line)
+reset s ws = said fresh_selection ws (values reset_line)
 
 -- by the kind, 0 to 6
-unfoldable pub of-kind : Selection → List ℤ → ℕ → List ℕ → Step
-of-kind s ws zero bs = reset s ws
-of-kind s ws (suc zero) bs = of-detector s ws (half-frame s.detector bs)
-of-kind s ws (suc (suc zero)) bs = of-searcher s ws (pitch s.searcher bs)
-of-kind s ws (suc (suc (suc zero))) bs = said s ws (pulse bs)
-of-kind s ws (suc (suc (suc (suc zero)))) bs = said s ws (gain bs)
-of-kind s ws (suc (suc (suc (suc (suc zero))))) bs = of_words s (filtering ws bs)
-of-kind s ws (suc (suc (suc (suc (suc (suc k)))))) bs = of_reader s ws (lag-reading s.reader bs)
+unfoldable pub of_kind : Selection → List ℤ → ℕ → List ℕ → Step
+of_kind s ws zero bs = reset s ws
+of_kind s ws (suc zero) bs = of_detector s ws (half_frame s.detector bs)
+of_kind s ws (suc (suc zero)) bs = of_searcher s ws (pitch s.searcher bs)
+of_kind s ws (suc (suc (suc zero))) bs = said s ws (pulse bs)
+of_kind s ws (suc (suc (suc (suc zero)))) bs = said s ws (gain bs)
+of_kind s ws (suc (suc (suc (suc (suc zero))))) bs = of_words s (filtering ws bs)
+of_kind s ws (suc (suc (suc (suc (suc (suc k)))))) bs = of_reader s ws (lag_reading s.reader bs)
 
 -- by what stands there; numbers 9 and 10 leave the three as they were
-abbrev pub of-standing : Selection → List ℤ → List ℕ → Told Standing → Step
-of-standing s ws bs (values nothing) = said s ws (values none)
-of-standing s ws bs (values (whole kind next)) = of-kind s ws kind bs
-of-standing s ws bs (refused n d) = said s ws (refused n d)
+abbrev pub of_standing : Selection → List ℤ → List ℕ → Told Standing → Step
+of_standing s ws bs (values nothing) = said s ws (values none)
+of_standing s ws bs (values (whole kind next)) = of_kind s ws kind bs
+of_standing s ws bs (refused n d) = said s ws (refused n d)
 
 -- the record at a place of a feed, with the words that are lent
-unfoldable pub step-lent : Selection → List ℤ → List ℕ → ℕ → Step
-step-lent s ws feed at = of-standing s ws (body feed at) (header feed at)
+unfoldable pub step_lent : Selection → List ℤ → List ℕ → ℕ → Step
+step_lent s ws feed at = of_standing s ws (body feed at) (header feed at)

@@ -2,7 +2,7 @@
 #![tactic(auto)]
 
 ghost use Rattle.std.specs.Prelude.{List, ◌≡◌, ◌≤◌, ℤ};
-ghost use Rattle.selection.specs.Steps.{selection-of, told-lent, of-kind, step-lent};
+ghost use Rattle.selection.specs.Steps.{selection_of, told_lent, of_kind, step_lent};
 
 use feed::Header;
 use lag_reader::Reader;
@@ -25,7 +25,7 @@ pub fn step_lent(
     feed: &[u8],
     at: usize,
 ) -> LentStep
-    ensures { told-lent result history_q0.new words.new ≡ step-lent (selection-of history_q0.old searcher reader) words.old feed.now at }
+    ensures { told_lent result history_q0.new words.new ≡ step_lent (selection_of history_q0.old searcher reader) words.old feed.now at }
 {
     match feed::header_at(feed, at) {
         Header::End => LentStep {
@@ -59,7 +59,7 @@ fn taken(
     body: &[u8],
 ) -> LentStep
     requires { kind ≤ 6 }
-    ensures { told-lent result history_q0.new words.new ≡ of-kind (selection-of history_q0.old searcher reader) words.old kind body.now }
+    ensures { told_lent result history_q0.new words.new ≡ of_kind (selection_of history_q0.old searcher reader) words.old kind body.now }
 {
     match kind {
         0 => {
@@ -87,7 +87,7 @@ fn taken(
 // The kinds that write nothing.
 fn answered(searcher: Search, reader: Reader, kind: u8, body: &[u8]) -> LentStep
     requires { (2 ≤ kind) × (kind ≤ 6) × (kind ≡ 5 → ⊥) }
-    ensures { (history ws : List ℤ) → told-lent result history ws ≡ of-kind (selection-of history searcher reader) ws kind body.now }
+    ensures { (history ws : List ℤ) → told_lent result history ws ≡ of_kind (selection_of history searcher reader) ws kind body.now }
 {
     match kind {
         2 => {

@@ -7,5 +7,5 @@ use Rattle.pitch.specs.declared.Fraction.TheVariants.{Zero}
 use Rattle.selection_answers.specs.Lines.{hertz}
 
 -- at fraction 0, for every lag
-pub whole-lag : (lag : ℕ) → hertz (record { samples = lag; fraction = Zero }) ≡ 8000 / lag
-whole-lag lag = ap (λ d. 24000 / d) (omega arith) ∙ mul-div-mul_left {m = 3} 8000 lag (omega arith)
+pub whole_lag : (lag : ℕ) → hertz (record { samples = lag; fraction = Zero }) ≡ 8000 / lag
+whole_lag lag = ap (λ d. 24000 / d) (omega arith) ∙ mul-div-mul_left {m = 3} 8000 lag (omega arith)

@@ -19,45 +19,45 @@ abbrev pub hertz : PitchLag → ℕ
 hertz l = 24000 / (3 * l.samples + from_zero l.fraction - 1)
 
 -- '`reset` with no field'
-abbrev pub reset-line : Line
-reset-line = line 0 []
+abbrev pub reset_line : Line
+reset_line = line 0 []
 
 -- '`open` lag'
-abbrev pub open-line : ℕ → Line
-open-line lag = line 1 (pos lag ∷ [])
+abbrev pub open_line : ℕ → Line
+open_line lag = line 1 (pos lag ∷ [])
 
 -- 'lag, fraction, hertz'
-abbrev pub lag-fields : PitchLag → ℕ → List ℤ
-lag-fields l h = pos l.samples ∷ thirds l.fraction ∷ pos h ∷ []
+abbrev pub lag_fields : PitchLag → ℕ → List ℤ
+lag_fields l h = pos l.samples ∷ thirds l.fraction ∷ pos h ∷ []
 
 -- '`pitch` index, lag, fraction, hertz'
-abbrev pub pitch-line : SearchedPitch → Line
-pitch-line p = line 2 (pos p.index ∷ lag-fields p.lag (hertz p.lag))
+abbrev pub pitch_line : SearchedPitch → Line
+pitch_line p = line 2 (pos p.index ∷ lag_fields p.lag (hertz p.lag))
 
 -- '`pulses` positions, signs'
-abbrev pub pulse-line : PulseWords → Line
-pulse-line w = line 3 (pos w.positions ∷ pos w.signs ∷ [])
+abbrev pub pulse_line : PulseWords → Line
+pulse_line w = line 3 (pos w.positions ∷ pos w.signs ∷ [])
 
 -- '`gain` index, pitch, correction'
-abbrev pub gain-line : QuantizedGain → Line
-gain-line q = line 4 (pos q.index ∷ q.row.pitch_q14 ∷ q.row.correction_q12 ∷ [])
+abbrev pub gain_line : QuantizedGain → Line
+gain_line q = line 4 (pos q.index ∷ q.row.pitch_q14 ∷ q.row.correction_q12 ∷ [])
 
 -- '`filter` the 160 words of residual, impulse, target, error'
-abbrev pub filter-line : List ℤ → Line
-filter-line words = line 5 words
+abbrev pub filter_line : List ℤ → Line
+filter_line words = line 5 words
 
 -- '`lag` lag, fraction, hertz'
-abbrev pub lag-line : PitchLag → Line
-lag-line l = line 6 (lag-fields l (hertz l))
+abbrev pub lag_line : PitchLag → Line
+lag_line l = line 6 (lag_fields l (hertz l))
 
 -- an answer as 01 gives it, with the words that stand beside it
-abbrev pub told-answer : Answer → List ℤ → Told Line
-told-answer End words = values none
-told-answer Reset words = values reset-line
-told-answer (Open lag) words = values (open-line lag)
-told-answer (Pitch index l h) words = values (line 2 (pos index ∷ lag-fields l h))
-told-answer (Pulses w) words = values (pulse-line w)
-told-answer (Gain q) words = values (gain-line q)
-told-answer Filter words = values (filter-line words)
-told-answer (Lag l h) words = values (line 6 (lag-fields l h))
-told-answer (Refused r) words = turned_down r
+abbrev pub told_answer : Answer → List ℤ → Told Line
+told_answer End words = values none
+told_answer Reset words = values reset_line
+told_answer (Open lag) words = values (open_line lag)
+told_answer (Pitch index l h) words = values (line 2 (pos index ∷ lag_fields l h))
+told_answer (Pulses w) words = values (pulse_line w)
+told_answer (Gain q) words = values (gain_line q)
+told_answer Filter words = values (filter_line words)
+told_answer (Lag l h) words = values (line 6 (lag_fields l h))
+told_answer (Refused r) words = turned_down r

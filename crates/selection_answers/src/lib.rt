@@ -3,13 +3,13 @@
 
 ghost use Rattle.std.specs.Prelude.{List, [], ◌≡◌, ℤ};
 ghost use Rattle.refusal.specs.Refused.{put, turned_down};
-ghost use Rattle.pitch.specs.Kinds.{told-lag};
-ghost use Rattle.lag_reader.specs.Readers.{told-reading};
+ghost use Rattle.pitch.specs.Kinds.{told_lag};
+ghost use Rattle.lag_reader.specs.Readers.{told_reading};
 ghost use Rattle.pitch_search.specs.Searches.{told};
-ghost use Rattle.codebook_search.specs.Pulses.{told-words};
-ghost use Rattle.gain.specs.Rows.{told-row};
-ghost use Rattle.selection_answers.specs.Fields.{accepted-line, fields-of};
-ghost use Rattle.selection_answers.specs.Lines.{hertz, open-line, pitch-line, pulse-line, gain-line, lag-line, told-answer};
+ghost use Rattle.codebook_search.specs.Pulses.{told_words};
+ghost use Rattle.gain.specs.Rows.{told_row};
+ghost use Rattle.selection_answers.specs.Fields.{accepted_line, fields_of};
+ghost use Rattle.selection_answers.specs.Lines.{hertz, open_line, pitch_line, pulse_line, gain_line, lag_line, told_answer};
 
 use codebook_code::PulseWords;
 use codebook_search::Pulses;
@@ -47,7 +47,7 @@ pub enum Answer {
 // ---- The answer of each stage. The words beside an answer count for `Filter` alone: here they are any list.
 
 pub fn open_answer(lag: OpenLoop) -> Answer
-    ensures { (ws : List ℤ) → told-answer result ws ≡ put open-line (told-lag lag) }
+    ensures { (ws : List ℤ) → told_answer result ws ≡ put open_line (told_lag lag) }
 {
     match lag {
         OpenLoop::Lag(found) => Answer::Open(found.samples()),
@@ -56,7 +56,7 @@ pub fn open_answer(lag: OpenLoop) -> Answer
 }
 
 pub fn pitch_answer(found: Found) -> Answer
-    ensures { (ws : List ℤ) → told-answer result ws ≡ put pitch-line (told found) }
+    ensures { (ws : List ℤ) → told_answer result ws ≡ put pitch_line (told found) }
 {
     match found {
         Found::Pitch(searched) => {
@@ -72,7 +72,7 @@ pub fn pitch_answer(found: Found) -> Answer
 }
 
 pub fn pulses_answer(found: Pulses) -> Answer
-    ensures { (ws : List ℤ) → told-answer result ws ≡ put pulse-line (told-words found) }
+    ensures { (ws : List ℤ) → told_answer result ws ≡ put pulse_line (told_words found) }
 {
     match found {
         Pulses::Words(words) => Answer::Pulses(words),
@@ -81,7 +81,7 @@ pub fn pulses_answer(found: Pulses) -> Answer
 }
 
 pub fn gain_answer(quantized: Quantized) -> Answer
-    ensures { (ws : List ℤ) → told-answer result ws ≡ put gain-line (told-row quantized) }
+    ensures { (ws : List ℤ) → told_answer result ws ≡ put gain_line (told_row quantized) }
 {
     match quantized {
         Quantized::Row(row) => Answer::Gain(row),
@@ -90,7 +90,7 @@ pub fn gain_answer(quantized: Quantized) -> Answer
 }
 
 pub fn reading_answer(reading: Reading) -> Answer
-    ensures { (ws : List ℤ) → told-answer result ws ≡ put lag-line (told-reading reading) }
+    ensures { (ws : List ℤ) → told_answer result ws ≡ put lag_line (told_reading reading) }
 {
     match reading {
         Reading::Lag(lag) => Answer::Lag {
@@ -129,7 +129,7 @@ pub struct Fields {
 }
 
 pub fn fields_of(answer: Answer) -> Fields
-    ensures { result ≡ fields-of (told-answer answer []) }
+    ensures { result ≡ fields_of (told_answer answer []) }
 {
     match answer {
         Answer::End => accepted_line(7, 0, 0, 0, 0),
@@ -160,7 +160,7 @@ pub fn fields_of(answer: Answer) -> Fields
 }
 
 fn accepted_line(line: u8, first: i32, second: i32, third: i32, fourth: i32) -> Fields
-    ensures { result ≡ accepted-line line first second third fourth }
+    ensures { result ≡ accepted_line line first second third fourth }
 {
     Fields {
         number: 0,
@@ -175,7 +175,7 @@ fn accepted_line(line: u8, first: i32, second: i32, third: i32, fourth: i32) -> 
 }
 
 fn refused_line(refusal: Refusal) -> Fields
-    ensures { result ≡ fields-of (turned_down refusal) }
+    ensures { result ≡ fields_of (turned_down refusal) }
 {
     let detail = refusal.detail();
     Fields {

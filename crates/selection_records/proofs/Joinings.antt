@@ -9,10 +9,10 @@ use lib.Seq.{get_or-append-add}
 use Rattle.fixed.specs.Lists.{at}
 
 module _ (xs ys : List ℤ) (n : ℕ) (e : length xs ≡ n) (i : ℕ) where
-  pub in-first : i < n → at (xs ++ ys) i ≡ at xs i
-  in-first h = get_or-append xs ys (pos 0) i (omega arith)
+  pub in_first : i < n → at (xs ++ ys) i ≡ at xs i
+  in_first h = get_or-append xs ys (pos 0) i (omega arith)
 
-  pub in-second : n ≤ i → at (xs ++ ys) i ≡ at ys (i - n)
-  in-second h =
+  pub in_second : n ≤ i → at (xs ++ ys) i ≡ at ys (i - n)
+  in_second h =
       let f : i ≡ length xs + (i - n) = omega arith in
       ap (at (xs ++ ys)) f ∙ get_or-append-add xs ys (i - n) (pos 0)

@@ -7,9 +7,9 @@ use lib.IntN.{ℤ}
 use lib.ListN.{length}
 use Rattle.encoder_filtering.specs.Subframes.{lists, prepare}
 use Rattle.feed.specs.Words.{words}
-use Rattle.selection_records.specs.Records.{zeros, of-filters, filtering}
+use Rattle.selection_records.specs.Records.{zeros, of_filters, filtering}
 
-pub filtering-read : (bs : List ℕ) (old ss cs qs es vs : List ℤ) → length bs ≡ 184 → ss ≡ words bs 0 50 → cs ≡ words bs 100 11 → qs ≡ words bs 122 11 → es ≡ words bs 144 10 → vs ≡ words bs 164 10 →
-    of-filters old (prepare ss cs qs es vs (lists zeros zeros zeros zeros)) ≡ filtering old bs
+pub filtering_read : (bs : List ℕ) (old ss cs qs es vs : List ℤ) → length bs ≡ 184 → ss ≡ words bs 0 50 → cs ≡ words bs 100 11 → qs ≡ words bs 122 11 → es ≡ words bs 144 10 → vs ≡ words bs 164 10 →
+    of_filters old (prepare ss cs qs es vs (lists zeros zeros zeros zeros)) ≡ filtering old bs
 unfolding filtering
-filtering-read bs old ss cs qs es vs l p q r s t = rw (eq-eqb (length bs) 184 l, p, q, r, s, t)
+filtering_read bs old ss cs qs es vs l p q r s t = rw (eq-eqb (length bs) 184 l, p, q, r, s, t)

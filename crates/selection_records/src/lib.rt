@@ -6,8 +6,8 @@ ghost use Rattle.std.specs.Prelude.{List, ◌≡◌, ◌+◌, ◌*◌, ◌≤◌
 ghost use Rattle.fixed.specs.Lists.{at};
 ghost use Rattle.encoder_filtering.specs.Subframes.{lists, prepare};
 ghost use Rattle.feed.specs.Words.{words};
-ghost use Rattle.selection_answers.specs.Lines.{told-answer};
-ghost use Rattle.selection_records.specs.Records.{told_with, in_order, of-filters, zeros, half-frame, pitch, pulse, gain, filtering, lag-reading};
+ghost use Rattle.selection_answers.specs.Lines.{told_answer};
+ghost use Rattle.selection_records.specs.Records.{told_with, in_order, of_filters, zeros, half_frame, pitch, pulse, gain, filtering, lag_reading};
 
 use codebook_sharpening::SharpeningGain;
 use encoder_filtering::Filtering;
@@ -18,7 +18,7 @@ use selection_answers::Answer;
 
 // The detector's old words are lent and updated.
 pub fn half_frame_record(history_q0: &mut [i16; 143], body: &[u8]) -> Answer
-    ensures { (ws : List ℤ) → told_with result ws (record { history_q0 = history_q0.exit.now }) ≡ half-frame (record { history_q0 = history_q0.entry.now }) body.now }
+    ensures { (ws : List ℤ) → told_with result ws (record { history_q0 = history_q0.exit.now }) ≡ half_frame (record { history_q0 = history_q0.entry.now }) body.now }
 {
     if body.len() != 160 {
         return Answer::End;
@@ -71,7 +71,7 @@ pub fn pitch_record(searcher: Search, body: &[u8]) -> PitchRecord
 }
 
 pub fn pulse_record(body: &[u8]) -> Answer
-    ensures { (ws : List ℤ) → told-answer result ws ≡ pulse body.now }
+    ensures { (ws : List ℤ) → told_answer result ws ≡ pulse body.now }
 {
     if body.len() != 163 {
         return Answer::End;
@@ -94,7 +94,7 @@ pub fn pulse_record(body: &[u8]) -> Answer
 }
 
 pub fn gain_record(body: &[u8]) -> Answer
-    ensures { (ws : List ℤ) → told-answer result ws ≡ gain body.now }
+    ensures { (ws : List ℤ) → told_answer result ws ≡ gain body.now }
 {
     if body.len() != 245 {
         return Answer::End;
@@ -164,7 +164,7 @@ fn prepared(
     errors: &[i16],
     weighting: &[i16],
 ) -> Answer
-    ensures { told_with result words.new words.new ≡ of-filters words.old (prepare speech.now coefficients.now quantized.now errors.now weighting.now (lists zeros zeros zeros zeros)) }
+    ensures { told_with result words.new words.new ≡ of_filters words.old (prepare speech.now coefficients.now quantized.now errors.now weighting.now (lists zeros zeros zeros zeros)) }
 {
     let mut residual = [0i16; 40];
     let mut impulse = [0i16; 40];
@@ -236,7 +236,7 @@ pub struct LagRecord {
 }
 
 pub fn lag_record(reader: Reader, body: &[u8]) -> LagRecord
-    ensures { (ws : List ℤ) → told_with result.answer ws result.reader ≡ lag-reading reader body.now }
+    ensures { (ws : List ℤ) → told_with result.answer ws result.reader ≡ lag_reading reader body.now }
 {
     if body.len() != 2 {
         return LagRecord {

@@ -8,23 +8,23 @@ use lib.Dec.{leb, ltb}
 use lib.IntN.{ℤ, pos}
 use lib.ListN.{replicate}
 use borrow.Author.Tests.{le-leb, ltb-false}
-use Rattle.fixed.specs.Operators.{L-add, L-mult}
-use Rattle.fixed.specs.Lists.{at, between, L-sum}
+use Rattle.fixed.specs.Operators.{L_add, L_mult}
+use Rattle.fixed.specs.Lists.{at, between, L_sum}
 use Rattle.fixed.proofs.Lists.{Filled, zeros}
 
 module _ (g : ℕ → ℕ → ℤ) (count : ℕ → ℕ) where
   -- place i once k terms were handed out
   abbrev pub taken : ℕ → ℕ → ℤ
-  taken k i = L-sum (pos 0) (g i) (min k (count i))
+  taken k i = L_sum (pos 0) (g i) (min k (count i))
 
-  pub none-taken : (n : ℕ) → Filled (taken 0) (pos 0) n (replicate n (pos 0))
-  unfolding L-sum
-  none-taken n i h = let e : min 0 (count i) ≡ 0 = omega arith in rw e (zeros n i h)
+  pub none_taken : (n : ℕ) → Filled (taken 0) (pos 0) n (replicate n (pos 0))
+  unfolding L_sum
+  none_taken n i h = let e : min 0 (count i) ≡ 0 = omega arith in rw e (zeros n i h)
 
   -- a term more, at a place that has one
-  pub term-more : (k i : ℕ) → k < count i → L-add (taken k i) (g i k) ≡ taken (k + 1) i
-  unfolding L-sum
-  term-more k i h =
+  pub term_more : (k i : ℕ) → k < count i → L_add (taken k i) (g i k) ≡ taken (k + 1) i
+  unfolding L_sum
+  term_more k i h =
       let a : min k (count i) ≡ k = omega arith in
       let b : min (k + 1) (count i) ≡ suc k = omega arith in
       rw (a, b)
@@ -39,14 +39,14 @@ module _ (g : ℕ → ℕ → ℤ) (count : ℕ → ℕ) where
       go false q =
           let l = all i h q in
           let e : min k (count i) ≡ min (k + 1) (count i) = omega arith in
-          ap (L-sum (pos 0) (g i)) e
+          ap (L_sum (pos 0) (g i)) e
 
   -- every sum is whole
-  pub all-taken : (k n : ℕ) (ss : List ℤ) → ((i : ℕ) → i < n → count i ≤ k) → Filled (taken k) (pos 0) n ss → Filled (λ i. L-sum (pos 0) (g i) (count i)) (pos 0) n ss
-  all-taken k n ss all p i h =
+  pub all_taken : (k n : ℕ) (ss : List ℤ) → ((i : ℕ) → i < n → count i ≤ k) → Filled (taken k) (pos 0) n ss → Filled (λ i. L_sum (pos 0) (g i) (count i)) (pos 0) n ss
+  all_taken k n ss all p i h =
       let l = all i h in
       let e : min k (count i) ≡ count i = omega arith in
-      p i h ∙ ap (L-sum (pos 0) (g i)) e
+      p i h ∙ ap (L_sum (pos 0) (g i)) e
 
 -- where sum i has n - i terms, no sum past place n - k waits for term k
 pub waiting : (n k i : ℕ) → i < n → (leb 0 i && ltb i (n - k)) ≡ false → n - i ≤ k
@@ -57,4 +57,4 @@ waiting n k i h q =
 -- ---- the sums of Convolve
 -- term i of the sum at place n, which has n + 1 terms
 abbrev pub term : List ℤ → List ℤ → ℕ → ℕ → ℤ
-term xs hs n i = L-mult (at xs i) (at hs (n - i))
+term xs hs n i = L_mult (at xs i) (at hs (n - i))

@@ -6,19 +6,19 @@ use lib.IntN.{ℤ, pos}
 use lib.ListN.{length}
 use borrow.Author.Tests.{eq-eqb}
 use Rattle.fixed.specs.Lists.{at, part}
-use Rattle.fixed.proofs.Lists.{length-tabulate}
-use Rattle.synthesis_filter.specs.Synthesis.{with-past, Syn-filt, synthesis}
+use Rattle.fixed.proofs.Lists.{length_tabulate}
+use Rattle.synthesis_filter.specs.Synthesis.{with_past, Syn_filt, synthesis}
 
-pub syn-length : (cs xs past : List ℤ) → length (Syn-filt cs xs past) ≡ 40
-unfolding Syn-filt part
-syn-length cs xs past = length-tabulate (λ k. at (with-past cs xs past) (10 + k)) (pos 0) 40
+pub syn_length : (cs xs past : List ℤ) → length (Syn_filt cs xs past) ≡ 40
+unfolding Syn_filt part
+syn_length cs xs past = length_tabulate (λ k. at (with_past cs xs past) (10 + k)) (pos 0) 40
 
 -- ---- lists as long as the filter takes them
-pub synthesis-whole : (cs xs past : List ℤ) → length cs ≡ 11 → length xs ≡ 40 → length past ≡ 10 → synthesis cs xs past ≡ with-past cs xs past
+pub synthesis_whole : (cs xs past : List ℤ) → length cs ≡ 11 → length xs ≡ 40 → length past ≡ 10 → synthesis cs xs past ≡ with_past cs xs past
 unfolding synthesis
-synthesis-whole cs xs past e f g = rw (eq-eqb (length cs) 11 e, eq-eqb (length xs) 40 f, eq-eqb (length past) 10 g)
+synthesis_whole cs xs past e f g = rw (eq-eqb (length cs) 11 e, eq-eqb (length xs) 40 f, eq-eqb (length past) 10 g)
 
 -- and the 40 after the past
-pub synthesis-put-out : (cs xs past : List ℤ) → length cs ≡ 11 → length xs ≡ 40 → length past ≡ 10 → part (synthesis cs xs past) 10 40 ≡ Syn-filt cs xs past
-unfolding Syn-filt
-synthesis-put-out cs xs past e f g = rw (synthesis-whole cs xs past e f g)
+pub synthesis_put_out : (cs xs past : List ℤ) → length cs ≡ 11 → length xs ≡ 40 → length past ≡ 10 → part (synthesis cs xs past) 10 40 ≡ Syn_filt cs xs past
+unfolding Syn_filt
+synthesis_put_out cs xs past e f g = rw (synthesis_whole cs xs past e f g)

@@ -2,9 +2,9 @@
 #![tactic(auto)]
 
 ghost use Rattle.std.specs.Prelude.{◌≡◌, ◌+◌, ◌^◌, ◌≤◌, ◌<◌, nat_abs, ◌*ℤ◌, length};
-ghost use Rattle.fixed.specs.Operators.{L-mult};
+ghost use Rattle.fixed.specs.Operators.{L_mult};
 ghost use Rattle.fixed.specs.Lists.{at, part};
-ghost use Rattle.synthesis_filter.specs.Synthesis.{less-past, synthesis};
+ghost use Rattle.synthesis_filter.specs.Synthesis.{less_past, synthesis};
 ghost use Rattle.synthesis_filter.specs.Plain.{magnitudes, weighed, Below};
 
 const SUBFRAME_SAMPLES: usize = 40;
@@ -67,7 +67,7 @@ fn sum_at(
     peak: u16,
 ) -> i32
     requires { (length coefficients.now ≡ 11) × (10 ≤ place) × (place ≤ 50) × (reach ≡ magnitudes coefficients.now 10) × Below samples.now place peak }
-    ensures { result ≡ less-past coefficients.now samples.now place (L-mult excitation (at coefficients.now 0)) 10 }
+    ensures { result ≡ less_past coefficients.now samples.now place (L_mult excitation (at coefficients.now 0)) 10 }
 {
     let first = fixed::exact(excitation, coefficients[0]);
     if MOST_UNDOUBLED < fixed::unsigned_abs(first) as u64 + reach as u64 * peak as u64 {
@@ -78,7 +78,7 @@ fn sum_at(
 
 fn clipped_sum(coefficients: &[i16], excitation: i16, samples: &[i16; 50], place: usize) -> i32
     requires { (length coefficients.now ≡ 11) × (10 ≤ place) × (place ≤ 50) }
-    ensures { result ≡ less-past coefficients.now samples.now place (L-mult excitation (at coefficients.now 0)) 10 }
+    ensures { result ≡ less_past coefficients.now samples.now place (L_mult excitation (at coefficients.now 0)) 10 }
 {
     let mut sum = fixed::product(excitation, coefficients[0]);
     let mut tap = 0;
@@ -92,7 +92,7 @@ fn clipped_sum(coefficients: &[i16], excitation: i16, samples: &[i16; 50], place
 // Half the sum, doubled at the end; the newest sample last: the other products do not wait for it.
 fn plain_sum(coefficients: &[i16], excitation: i16, samples: &[i16; 50], place: usize) -> i32
     requires { (length coefficients.now ≡ 11) × (10 ≤ place) × (place ≤ 50) × (nat_abs (excitation *ℤ at coefficients.now 0) + weighed coefficients.now samples.now place 10 < 2 ^ 30) }
-    ensures { result ≡ less-past coefficients.now samples.now place (L-mult excitation (at coefficients.now 0)) 10 }
+    ensures { result ≡ less_past coefficients.now samples.now place (L_mult excitation (at coefficients.now 0)) 10 }
 {
     let mut sum = fixed::exact(excitation, coefficients[0]);
     let mut tap = LPC_ORDER;

@@ -3,7 +3,7 @@
 
 ghost use Rattle.std.specs.Prelude.{◌≡◌, length};
 ghost use Rattle.fixed.specs.Lists.{part};
-ghost use Rattle.target_filtering.specs.Subframes.{impulse-response, target-of, subframePreProc, prepared};
+ghost use Rattle.target_filtering.specs.Subframes.{impulse_response, target_of, subframePreProc, prepared};
 
 const SUBFRAME_SAMPLES: usize = 40;
 
@@ -99,7 +99,7 @@ fn eleven(list: &[i16]) -> [i16; 11]
 
 fn impulse_response(numerator: &[i16], denominator: &[i16], quantized: &[i16]) -> [i16; 40]
     requires { (length numerator.now ≡ 11) × (length denominator.now ≡ 11) × (length quantized.now ≡ 11) }
-    ensures { result ≡ impulse-response numerator.now denominator.now quantized.now }
+    ensures { result ≡ impulse_response numerator.now denominator.now quantized.now }
 {
     let silence = [0i16; 10];
     let none: &[i16] = &silence;
@@ -126,7 +126,7 @@ fn extended(coefficients: &[i16]) -> [i16; 40]
 
 fn target_of(numerator: &[i16], denominator: &[i16], error: &[i16], history: &[i16]) -> [i16; 40]
     requires { (length numerator.now ≡ 11) × (length denominator.now ≡ 11) × (length error.now ≡ 50) × (length history.now ≡ 10) }
-    ensures { result ≡ target-of numerator.now denominator.now error.now history.now }
+    ensures { result ≡ target_of numerator.now denominator.now error.now history.now }
 {
     let weighted = filters::filtered(numerator, error);
     let weighted_words: &[i16] = &weighted;

@@ -1,7 +1,7 @@
 use Rattle.std.proofs.Common.{◌+◌, ◌/◌, ◌%◌, arith}
 use borrow.Author.Tests.{eq-eqb, ne_eqb, le-leb, lt-leb}
 use Rattle.codebook.specs.Readers.{decode}
-use Rattle.codebook.proofs.ReadBack.{place-lt}
+use Rattle.codebook.proofs.ReadBack.{place_lt}
 use Rattle.codebook.proofs.read.Goals as goal
 
 pub returns-then-samples_q13-ne-SUBFRAME_SAMPLES : goal.returns-then-samples_q13-ne-SUBFRAME_SAMPLES
@@ -28,7 +28,7 @@ returns-then-pulse_signs-gt-MAX_SIGNS c =
 pub write-requires : goal.write-requires
 write-requires c =
     let w = c.args.pulse_positions in
-    rw c.places_in-places.ensures (c.if-samples_q13-ne-SUBFRAME_SAMPLES.false, place-lt w 0 (omega arith), place-lt (w / 8) 1 (omega arith), place-lt (w / 64) 2 (omega arith), place-lt (w / 1024) (3 + w / 512 % 2) (omega arith))
+    rw c.places_in-places.ensures (c.if-samples_q13-ne-SUBFRAME_SAMPLES.false, place_lt w 0 (omega arith), place_lt (w / 8) 1 (omega arith), place_lt (w / 64) 2 (omega arith), place_lt (w / 1024) (3 + w / 512 % 2) (omega arith))
 
 pub returns : goal.returns
 unfolding decode

@@ -11,13 +11,13 @@ use mir.Facts.{to_z-of_z}
 use Rattle.fixed.proofs.Bounds.{got}
 use Rattle.fixed.specs.Lists.{at}
 use Rattle.codebook_steps.specs.Steps.{exceeds, none_in}
-use Rattle.codebook_choice.specs.Choices.{best-step}
-use Rattle.codebook_choice.proofs.Tracks.{candidate, number_more, number-less}
+use Rattle.codebook_choice.specs.Choices.{best_step}
+use Rattle.codebook_choice.proofs.Tracks.{candidate, number_more, number_less}
 use Rattle.codebook_choice.proofs.best.Goals.{then-exceeds, else-exceeds}
 use Rattle.codebook_choice.proofs.best.Goals as goal
 
 pub loop-n-init : goal.loop-n-init
-unfolding best-step none_in
+unfolding best_step none_in
 loop-n-init c = record { within = omega arith; held = (refl, refl, refl) }
 
 pub loop-n-preserved : goal.loop-n-preserved
@@ -31,13 +31,13 @@ loop-n-preserved c =
     let i = c.loop-n.invariant in
     let y : to_z w16 (of_z w16 (at squares n)) ≡ at squares n = search rules in
     let z : to_z w16 (of_z w16 (at energies n)) ≡ at energies n = search rules in
-    let held = best-step (candidate cs squares energies sum track) track n in
+    let held = best_step (candidate cs squares energies sum track) track n in
     let t : c.exceeds.result ≡ exceeds (at squares n) (at energies n) held.square held.energy = rw (i.held.1, i.held.2) (rw (y, z) at c.exceeds.ensures) in
     elim c.if-exceeds.branch [
       | then-exceeds w ↦
           record { within = omega (arith, w.found-is); held = rw (add-one n, w.found-is, w.square-is, w.energy-is, y, z) (number_more cs squares energies sum track n c.requires (omega arith) (sym t ∙ w.if-exceeds.true)) }
       | else-exceeds w ↦
-          record { within = rw w.found-is i.within; held = rw (add-one n, w.found-is, w.square-is, w.energy-is) (number-less cs squares energies sum track n c.loop-n.found _ _ c.requires (sym t ∙ w.if-exceeds.false) i.held) }
+          record { within = rw w.found-is i.within; held = rw (add-one n, w.found-is, w.square-is, w.energy-is) (number_less cs squares energies sum track n c.loop-n.found _ _ c.requires (sym t ∙ w.if-exceeds.false) i.held) }
     ]
 
 pub returns-then-found-eq-POSITIONS_PER_TRACK : goal.returns-then-found-eq-POSITIONS_PER_TRACK

@@ -4,11 +4,11 @@ use mir.Syntax.{w16, w32}
 use mir.Val.{to_z, of_z}
 use Rattle.fixed.proofs.Bounds.{got}
 use Rattle.fixed.specs.Lists.{at}
-use Rattle.codebook_choice.specs.Choices.{fourth-at}
+use Rattle.codebook_choice.specs.Choices.{fourth_at}
 use Rattle.codebook_choice.proofs.fourth_at.Goals as goal
 
 pub returns : goal.returns
-unfolding fourth-at
+unfolding fourth_at
 returns c =
     let a = c.args in
     let y : to_z w16 (of_z w16 (at a.correlation.now a.place)) ≡ at a.correlation.now a.place = search rules in

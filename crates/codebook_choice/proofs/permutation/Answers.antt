@@ -2,13 +2,13 @@ use mathlib.Core.Path.{◌≡◌, refl, ◌∙◌}
 use native.Mathlib.Omega.{arith}
 use native.Mathlib.Numerals.{add-one}
 use Rattle.codebook_choice.specs.Choices.{permutation}
-use Rattle.codebook_choice.proofs.Trials.{one-lt, two-lt, start_is}
+use Rattle.codebook_choice.proofs.Trials.{one_lt, two_lt, start_is}
 use Rattle.codebook_choice.proofs.permutation.Goals as goal
 
 pub thirds-twos-requires : goal.thirds-twos-requires
 thirds-twos-requires c =
     let a = c.args in
-    (c.requires.0, c.requires.2, rw c.seconds-ones.ensures (one-lt a.correlation.now a.table.now a.left.now a.a a.b a.c c.requires.1))
+    (c.requires.0, c.requires.2, rw c.seconds-ones.ensures (one_lt a.correlation.now a.table.now a.left.now a.a a.b a.c c.requires.1))
 
 pub loop-n-init : goal.loop-n-init
 unfolding permutation
@@ -20,8 +20,8 @@ started-best-requires c =
     let ones = c.seconds-ones.ensures in
     let twos = rw ones at c.thirds-twos.ensures in (
       omega arith,
-      rw ones (one-lt a.correlation.now a.table.now a.left.now a.a a.b a.c c.requires.1 c.loop-n.n (omega arith)),
-      rw twos (two-lt a.correlation.now a.table.now a.left.now a.a a.b a.c c.requires.2 c.loop-n.n (omega arith)),
+      rw ones (one_lt a.correlation.now a.table.now a.left.now a.a a.b a.c c.requires.1 c.loop-n.n (omega arith)),
+      rw twos (two_lt a.correlation.now a.table.now a.left.now a.a a.b a.c c.requires.2 c.loop-n.n (omega arith)),
       c.requires.3,
     )
 

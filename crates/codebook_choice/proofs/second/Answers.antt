@@ -5,13 +5,13 @@ use borrow.Author.Rules.{rules}
 use mir.Syntax.{w16}
 use mir.Val.{to_z, of_z}
 use Rattle.fixed.specs.Lists.{at}
-use Rattle.codebook_steps.specs.Steps.{step-to}
+use Rattle.codebook_steps.specs.Steps.{step_to}
 use Rattle.codebook_choice.specs.Choices.{second_at}
 use Rattle.codebook_choice.proofs.Tracks.{best_of}
 use Rattle.codebook_choice.proofs.second.Goals as goal
 
 pub returns : goal.returns
-unfolding second_at step-to
+unfolding second_at step_to
 returns c =
     let a = c.args in
     let cs = a.correlation.now in

@@ -5,22 +5,22 @@ use lib.IntN.{ℤ}
 use mir.Syntax.{w16}
 use mir.Val.{to_z, of_z}
 use Rattle.fixed.proofs.Bounds.{got}
-use Rattle.fixed.proofs.Lists.{filling-more, filling-all}
-use Rattle.codebook_choice.proofs.Places.{second-energy}
-use Rattle.codebook_steps.specs.Steps.{step-to}
+use Rattle.fixed.proofs.Lists.{filling_more, filling_all}
+use Rattle.codebook_choice.proofs.Places.{second_energy}
+use Rattle.codebook_steps.specs.Steps.{step_to}
 use Rattle.codebook_choice.specs.Choices.{second_at}
 use Rattle.codebook_choice.proofs.second_energies.Goals as goal
 
 pub loop-n-preserved : goal.loop-n-preserved
 loop-n-preserved c =
     let n = c.loop-n.n in
-    let f : ℕ → ℤ = second-energy c.args.table.now c.args.first c.args.track (to_z w16 (of_z w16 c.cell-base.result)) in
+    let f : ℕ → ℤ = second_energy c.args.table.now c.args.first c.args.track (to_z w16 (of_z w16 c.cell-base.result)) in
     let v : ℤ = to_z w16 (of_z w16 c.second_energy.result) in
     let e : v ≡ f n = rw (got w16 c.second_energy.type_inv c.second_energy.ensures, got w16 c.cell-in-loop-n.type_inv c.cell-in-loop-n.ensures, got w16 c.cell.type_inv c.cell.ensures) in
-    filling-more f 8 n c.loop-n.words v (omega arith) e c.loop-n.invariant
+    filling_more f 8 n c.loop-n.words v (omega arith) e c.loop-n.invariant
 
 pub returns : goal.returns
-unfolding second_at step-to
+unfolding second_at step_to
 returns c =
-    filling-all (second-energy c.args.table.now c.args.first c.args.track (to_z w16 (of_z w16 c.cell-base.result))) 8 c.loop-n.n c.loop-n.words (omega arith) c.loop-n.invariant
+    filling_all (second_energy c.args.table.now c.args.first c.args.track (to_z w16 (of_z w16 c.cell-base.result))) 8 c.loop-n.n c.loop-n.words (omega arith) c.loop-n.invariant
     ∙ rw (got w16 c.cell-base.type_inv c.cell-base.ensures)

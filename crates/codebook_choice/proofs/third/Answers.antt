@@ -4,13 +4,13 @@ use Prim.Native.Nat.{◌+◌, ◌*◌}
 use borrow.Author.Rules.{rules}
 use mir.Syntax.{w16}
 use mir.Val.{to_z, of_z}
-use Rattle.codebook_steps.specs.Steps.{step-to}
+use Rattle.codebook_steps.specs.Steps.{step_to}
 use Rattle.codebook_choice.specs.Choices.{third_at}
 use Rattle.codebook_choice.proofs.Tracks.{best_of}
 use Rattle.codebook_choice.proofs.third.Goals as goal
 
 pub returns : goal.returns
-unfolding third_at step-to
+unfolding third_at step_to
 returns c =
     let a = c.args in
     let cs = a.correlation.now in

@@ -8,31 +8,31 @@ use mir.Val.{to_z, of_z}
 use Rattle.fixed.specs.Lists.{at}
 use Rattle.codebook_steps.specs.declared.Step.{Step}
 use Rattle.codebook_steps.specs.Steps.{none_in}
-use Rattle.codebook_choice.proofs.Starting.{Chosen, none-chosen, one-chosen, none_more, all-chosen}
-use Rattle.codebook_choice.proofs.Places.{third-step}
+use Rattle.codebook_choice.proofs.Starting.{Chosen, none_chosen, one_chosen, none_more, all_chosen}
+use Rattle.codebook_choice.proofs.Places.{third_step}
 use Rattle.codebook_choice.proofs.thirds.Goals.{then-left-a-ge0, else-left-a-ge0}
 use Rattle.codebook_choice.proofs.thirds.Goals as goal
 
 pub loop-n-init : goal.loop-n-init
 loop-n-init c =
     let a = c.args in
-    let f = third-step a.correlation.now a.table.now a.a a.c a.ones in
-    subst (λ (x : Step). Chosen a.left.now a.a f (none_in a.c) 0 (replicate 8 x)) (sym c.none_in-steps.ensures) (none-chosen a.left.now a.a f (none_in a.c))
+    let f = third_step a.correlation.now a.table.now a.a a.c a.ones in
+    subst (λ (x : Step). Chosen a.left.now a.a f (none_in a.c) 0 (replicate 8 x)) (sym c.none_in-steps.ensures) (none_chosen a.left.now a.a f (none_in a.c))
 
 pub loop-n-preserved : goal.loop-n-preserved
 loop-n-preserved c =
     let a = c.args in
     let left = a.left.now in
-    let f = third-step a.correlation.now a.table.now a.a a.c a.ones in
+    let f = third_step a.correlation.now a.table.now a.a a.c a.ones in
     let n = c.loop-n.n in
     let y : to_z w16 (of_z w16 (at left (a.a + 5 * n))) ≡ at left (a.a + 5 * n) = search rules in
     elim c.if-left-a-ge0.branch [
       | then-left-a-ge0 w ↦
-          rw w.steps-is (one-chosen left a.a f (none_in a.c) n c.loop-n.steps w.third.result (omega arith) (rw y at w.if-left-a-ge0.true) w.third.ensures c.loop-n.invariant)
+          rw w.steps-is (one_chosen left a.a f (none_in a.c) n c.loop-n.steps w.third.result (omega arith) (rw y at w.if-left-a-ge0.true) w.third.ensures c.loop-n.invariant)
       | else-left-a-ge0 w ↦ rw w.steps-is (none_more left a.a f (none_in a.c) n c.loop-n.steps (omega arith) (rw y at w.if-left-a-ge0.false) c.loop-n.invariant)
     ]
 
 pub returns : goal.returns
 returns c =
     let a = c.args in
-    all-chosen a.left.now a.a (third-step a.correlation.now a.table.now a.a a.c a.ones) (none_in a.c) c.loop-n.n c.loop-n.steps (omega arith) c.loop-n.invariant
+    all_chosen a.left.now a.a (third_step a.correlation.now a.table.now a.a a.c a.ones) (none_in a.c) c.loop-n.n c.loop-n.steps (omega arith) c.loop-n.invariant

@@ -1,10 +1,10 @@
 use mir.Syntax.{w16, w32}
 use Rattle.fixed.proofs.Bounds.{got}
-use Rattle.codebook_code.specs.Codes.{through-all, in_order, filtered-at}
+use Rattle.codebook_code.specs.Codes.{through_all, in_order, filtered_at}
 use Rattle.codebook_code.proofs.filtered_at.Goals as goal
 
 pub returns : goal.returns
-unfolding filtered-at through-all in_order
+unfolding filtered_at through_all in_order
 returns c =
     rw (
       got w16 c.rounded.type_inv c.rounded.ensures,

@@ -1,14 +1,14 @@
 use mir.Syntax.{w16}
 use Rattle.fixed.proofs.Bounds.{got}
-use Rattle.codebook_choice.proofs.Choosing.{search-lt}
-use Rattle.codebook_code.specs.Codes.{chosen, of-correlation, of-impulse, code-4i40-17bits}
+use Rattle.codebook_choice.proofs.Choosing.{search_lt}
+use Rattle.codebook_code.specs.Codes.{chosen, of_correlation, of_impulse, code_4i40_17bits}
 use Rattle.codebook_code.proofs.searched.Goals as goal
 
 pub written-requires : goal.written-requires
-written-requires c = search-lt _ _ _ c.select.result c.select.ensures
+written-requires c = search_lt _ _ _ c.select.result c.select.ensures
 
 pub returns : goal.returns
-unfolding chosen of-correlation of-impulse code-4i40-17bits
+unfolding chosen of_correlation of_impulse code_4i40_17bits
 returns c =
     rw (
       c.written.ensures,

@@ -6,12 +6,12 @@ use lib.IntN.{ℤ, pos}
 use lib.Signed.{lt_z}
 use Rattle.fixed.specs.Lists.{at}
 use Rattle.codebook.specs.Words.{sign_bit}
-use Rattle.codebook.proofs.ReadBack.{sign-bit-le}
+use Rattle.codebook.proofs.ReadBack.{sign_bit_le}
 use Rattle.codebook_code.specs.Codes.{signs_of}
 use Rattle.codebook_code.proofs.signs_of.Goals as goal
 
 small : (signs : List ℤ) (place : ℕ) {r : ℕ} → r ≡ sign_bit (lt_z (pos 0) (at signs place)) place → r ≤ 8
-small signs place e = rw e (sign-bit-le (lt_z (pos 0) (at signs place)) place)
+small signs place e = rw e (sign_bit_le (lt_z (pos 0) (at signs place)) place)
 
 pub overflow_add-result : goal.overflow_add-result
 overflow_add-result c =

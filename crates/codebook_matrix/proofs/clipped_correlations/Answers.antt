@@ -1,10 +1,10 @@
 use Rattle.std.proofs.Common.{◌≡◌, ◌+◌, ◌-◌, ℤ, refl, ◌∙◌, w16, w32, to_z, of_z, arith, rules}
 use lib.ListN.{length-set}
-use Rattle.fixed.specs.Operators.{L-mac}
+use Rattle.fixed.specs.Operators.{L_mac}
 use Rattle.fixed.specs.Lists.{at}
 use Rattle.fixed.proofs.Bounds.{got}
-use Rattle.fixed.proofs.Lists.{at-end, placed-more}
-use Rattle.sums.proofs.Rows.{taken, none-taken, term-more, row_done, waiting}
+use Rattle.fixed.proofs.Lists.{at_end, placed_more}
+use Rattle.sums.proofs.Rows.{taken, none_taken, term_more, row_done, waiting}
 use Rattle.codebook_matrix.specs.Matrices.{entry, row, correlations}
 use Rattle.codebook_matrix.proofs.Entries.{mirror, term, terms, entry_known}
 use Rattle.codebook_matrix.proofs.Filling as filling
@@ -13,10 +13,10 @@ use Rattle.codebook_matrix.proofs.clipped_correlations.Goals as goal
 pub loop-k-init : goal.loop-k-init
 loop-k-init c =
     let ns = c.args.normalized.now in
-    (omega arith, refl, none-taken (term ns) terms 40, filling.nothing-filled (entry ns c.args.signs.now) (mirror ns c.args.signs.now))
+    (omega arith, refl, none_taken (term ns) terms 40, filling.nothing_filled (entry ns c.args.signs.now) (mirror ns c.args.signs.now))
 
 pub loop-d-preserved : goal.loop-d-preserved
-unfolding L-mac
+unfolding L_mac
 loop-d-preserved c =
     let ns = c.args.normalized.now in
     let g = term ns in
@@ -27,12 +27,12 @@ loop-d-preserved c =
     let y : to_z w32 (of_z w32 (at sums d)) ≡ at sums d = search rules in
     let x : to_z w16 (of_z w16 (at ns k)) ≡ at ns k = search rules in
     let h : to_z w16 (of_z w16 (at ns (k + d))) ≡ at ns (k + d) = search rules in
-    let held : at sums d ≡ taken g terms k d = c.loop-d.invariant.3 d (omega arith) ∙ at-end (taken g terms (k + 1)) (taken g terms k) 0 d in
-    let e : v ≡ taken g terms (k + 1) d = rw (got w32 c.mac.type_inv c.mac.ensures, y, x, h, held) (term-more g terms k d (omega arith)) in (
+    let held : at sums d ≡ taken g terms k d = c.loop-d.invariant.3 d (omega arith) ∙ at_end (taken g terms (k + 1)) (taken g terms k) 0 d in
+    let e : v ≡ taken g terms (k + 1) d = rw (got w32 c.mac.type_inv c.mac.ensures, y, x, h, held) (term_more g terms k d (omega arith)) in (
       c.loop-d.invariant.0,
       omega arith,
       length-set sums d v ∙ c.loop-d.invariant.2,
-      placed-more (taken g terms (k + 1)) (taken g terms k) 0 d 40 sums v (omega arith) (omega arith) e c.loop-d.invariant.3,
+      placed_more (taken g terms (k + 1)) (taken g terms k) 0 d 40 sums v (omega arith) (omega arith) e c.loop-d.invariant.3,
     )
 
 pub loop-i-preserved : goal.loop-i-preserved
@@ -57,4 +57,4 @@ returns c =
     let ns = c.args.normalized.now in
     let ss = c.args.signs.now in
     let e : c.loop-k.k ≡ 40 = omega arith in
-    filling.all-filled (entry ns ss) (mirror ns ss) c.loop-k.table (rw e at c.loop-k.invariant.3)
+    filling.all_filled (entry ns ss) (mirror ns ss) c.loop-k.table (rw e at c.loop-k.invariant.3)

@@ -2,7 +2,7 @@ use Rattle.std.proofs.Common.{◌≡◌, ℕ, ◌+◌, ℤ, pos, ◌*ℤ◌, ref
 use Rattle.fixed.specs.Operators.{round}
 use Rattle.fixed.specs.Lists.{at}
 use Rattle.fixed.proofs.Bounds.{got}
-use Rattle.fixed.proofs.Lists.{filling-more, filling-all}
+use Rattle.fixed.proofs.Lists.{filling_more, filling_all}
 use Rattle.codebook_matrix.proofs.rounded.Goals as goal
 
 pub loop-i-init : goal.loop-i-init
@@ -23,7 +23,7 @@ loop-i-preserved c =
     let v : ℤ = to_z w16 (of_z w16 c.rounded_double.result) in
     let x : to_z w32 (of_z w32 (at sums (from + i))) ≡ at sums (from + i) = search rules in
     let e : v ≡ f i = rw (got w16 c.rounded_double.type_inv c.rounded_double.ensures, x) in
-    filling-more f 40 i c.loop-i.words v (omega arith) e c.loop-i.invariant
+    filling_more f 40 i c.loop-i.words v (omega arith) e c.loop-i.invariant
 
 pub returns : goal.returns
-returns c = filling-all (λ k. round (pos 2 *ℤ at c.args.sums.now (c.args.from + k))) 40 c.loop-i.i c.loop-i.words (omega arith) c.loop-i.invariant
+returns c = filling_all (λ k. round (pos 2 *ℤ at c.args.sums.now (c.args.from + k))) 40 c.loop-i.i c.loop-i.words (omega arith) c.loop-i.invariant

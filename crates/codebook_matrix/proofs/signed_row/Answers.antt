@@ -2,7 +2,7 @@ use Rattle.std.proofs.Common.{◌≡◌, ℕ, ℤ, refl, ◌∙◌, w16, to_z, o
 use Rattle.fixed.specs.Operators.{mult}
 use Rattle.fixed.specs.Lists.{at}
 use Rattle.fixed.proofs.Bounds.{got}
-use Rattle.fixed.proofs.Lists.{filling-more, filling-all}
+use Rattle.fixed.proofs.Lists.{filling_more, filling_all}
 use Rattle.codebook_matrix.proofs.signed_row.Goals as goal
 
 pub loop-i-init : goal.loop-i-init
@@ -27,7 +27,7 @@ loop-i-preserved c =
     let p : to_z w16 (of_z w16 (at vs i)) ≡ at vs i = search rules in
     let q : to_z w16 (of_z w16 (at ss i)) ≡ at ss i = search rules in
     let e : v ≡ f i = rw (got w16 c.by_signs.type_inv c.by_signs.ensures, p, q) in
-    filling-more f 40 i c.loop-i.row v (omega arith) e c.loop-i.invariant
+    filling_more f 40 i c.loop-i.row v (omega arith) e c.loop-i.invariant
 
 pub returns : goal.returns
 returns c =
@@ -35,4 +35,4 @@ returns c =
     let ss = c.args.signs.now in
     let f : ℕ → ℤ = λ k. mult (at vs k) (mult (at ss k) (to_z w16 (of_z w16 (at ss c.args.j)))) in
     let z : to_z w16 (of_z w16 (at ss c.args.j)) ≡ at ss c.args.j = search rules in
-    filling-all f 40 c.loop-i.i c.loop-i.row (omega arith) c.loop-i.invariant ∙ rw z
+    filling_all f 40 c.loop-i.i c.loop-i.row (omega arith) c.loop-i.invariant ∙ rw z

@@ -2,15 +2,15 @@ use Rattle.std.proofs.Common.{◌≡◌, ◌+◌, ◌-◌, refl, w16, SFits, ari
 use Rattle.std.proofs.lemmas.Int.{to_z-of_z}
 use Rattle.fixed.specs.Lists.{at}
 use Rattle.fixed.proofs.Bounds.{got}
-use Rattle.codebook_sharpening.specs.Sharpenings.{raised, sharpened-to, sharpened}
+use Rattle.codebook_sharpening.specs.Sharpenings.{raised, sharpened_to, sharpened}
 use Rattle.codebook_sharpening.proofs.sharpened.Goals as goal
 
 pub loop-n-init : goal.loop-n-init
-unfolding sharpened-to
+unfolding sharpened_to
 loop-n-init c = (omega arith, refl)
 
 pub loop-n-preserved : goal.loop-n-preserved
-unfolding sharpened-to raised
+unfolding sharpened_to raised
 loop-n-preserved c =
     let xs = c.loop-n.samples in
     let n = c.loop-n.n in

@@ -1,6 +1,6 @@
-use Rattle.codebook_target.specs.Starts.{magnitudes-of}
+use Rattle.codebook_target.specs.Starts.{magnitudes_of}
 use Rattle.codebook_target.proofs.magnitudes.Goals as goal
 
 pub returns : goal.returns
-unfolding magnitudes-of
+unfolding magnitudes_of
 returns c = c.parts.ensures

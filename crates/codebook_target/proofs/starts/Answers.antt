@@ -1,5 +1,5 @@
 use Rattle.std.proofs.Common.{◌≡◌, ◌/◌, ◌<◌, refl, arith, add-one}
-use Rattle.codebook_target.specs.Starts.{without, drop-one, dropped, set-sign}
+use Rattle.codebook_target.specs.Starts.{without, drop_one, dropped, set_sign}
 use Rattle.codebook_target.proofs.Starting.{least_lt}
 use Rattle.codebook_target.proofs.starts.Goals.{After-least-place}
 use Rattle.codebook_target.proofs.starts.Goals as goal
@@ -20,13 +20,13 @@ pub array_set_of-left : goal.array_set_of-left
 array_set_of-left c = omega (arith, found c)
 
 pub loop-n-preserved : goal.loop-n-preserved
-unfolding dropped drop-one without
+unfolding dropped drop_one without
 loop-n-preserved c =
     let n = c.loop-n.n in
     (found c, rw (add-one n, ← c.loop-n.invariant.1, ← c.loop-n.invariant.2, c.least-place.ensures), rw (add-one n, ← c.loop-n.invariant.1, ← c.loop-n.invariant.2, c.least-place.ensures))
 
 pub returns : goal.returns
-unfolding set-sign
+unfolding set_sign
 returns c =
     let e : c.loop-n.n ≡ 20 = omega arith in
     rw e at c.loop-n.invariant.1

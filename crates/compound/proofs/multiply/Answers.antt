@@ -1,11 +1,11 @@
 use mir.Syntax.{w16, w32}
 use mir.Facts.{to_z-of_z}
-use Rattle.fixed.specs.Operators.{Mpy-32}
+use Rattle.fixed.specs.Operators.{Mpy_32}
 use Rattle.fixed.proofs.Bounds.{got}
 use Rattle.compound.proofs.multiply.Goals as goal
 
 pub returns : goal.returns
-unfolding Mpy-32
+unfolding Mpy_32
 returns c =
     simp (
       to_z-of_z c.ranges.a,

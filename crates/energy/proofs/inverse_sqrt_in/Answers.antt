@@ -2,14 +2,14 @@ use mathlib.Core.Path.{◌≡◌, ◌∙◌}
 use lib.IntN.{pos, nat_abs}
 use mir.Syntax.{w32}
 use mir.Facts.{to_z-of_z}
-use Rattle.energy.specs.Root.{root_in, Inv-sqrt-in}
+use Rattle.energy.specs.Root.{root_in, Inv_sqrt_in}
 use Rattle.fixed.proofs.Bounds.{got}
-use Rattle.fixed.proofs.Signs.{positive, not-positive, is_positive}
+use Rattle.fixed.proofs.Signs.{positive, not_positive, is_positive}
 use Rattle.energy.proofs.inverse_sqrt_in.Goals as goal
 
 pub returns-then-value-lt1 : goal.returns-then-value-lt1
-unfolding Inv-sqrt-in
-returns-then-value-lt1 c = not-positive _ (λ n. pos (root_in c.args.table.now n)) c.args.value (rw (to_z-of_z c.ranges.value) at c.if-value-lt1.true)
+unfolding Inv_sqrt_in
+returns-then-value-lt1 c = not_positive _ (λ n. pos (root_in c.args.table.now n)) c.args.value (rw (to_z-of_z c.ranges.value) at c.if-value-lt1.true)
 
 pub positive_root-requires : goal.positive_root-requires
 positive_root-requires c =
@@ -18,7 +18,7 @@ positive_root-requires c =
     rw size (positive c.args.value (rw (to_z-of_z f) at c.if-value-lt1.false) f)
 
 pub returns : goal.returns
-unfolding Inv-sqrt-in
+unfolding Inv_sqrt_in
 returns c =
     let f = c.ranges.value in
     let size : c.unsigned_abs.result ≡ nat_abs c.args.value = simp to_z-of_z at c.unsigned_abs.ensures in

@@ -1,6 +1,6 @@
 use Rattle.std.proofs.Common.{◌+◌, ◌-◌, ◌<◌, ◌≤◌, length, get_or}
 use borrow.Author.Tests.{lt-ltb, le-ltb, le-leb, lt-leb}
-use Rattle.feed.specs.Records.{body-length, header}
+use Rattle.feed.specs.Records.{body_length, header}
 use Rattle.feed.proofs.header_at.Goals as goal
 
 pub returns-then-feed-at : goal.returns-then-feed-at
@@ -18,11 +18,11 @@ unfolding header
 returns-then-present-needed c =
     let a = c.args in
     let k = get_or a.feed.now a.at 0 in
-    let h : length a.feed.now - (a.at + 1) < body-length k = rw c.body_length-needed.ensures at c.if-present-needed.true in
+    let h : length a.feed.now - (a.at + 1) < body_length k = rw c.body_length-needed.ensures at c.if-present-needed.true in
     rw (
       lt-ltb a.at (length a.feed.now) c.if-feed-at.false,
       le-leb k 6 c.if-kind-gt-LAST_KIND.false,
-      lt-leb (body-length k) (length a.feed.now - (a.at + 1)) h,
+      lt-leb (body_length k) (length a.feed.now - (a.at + 1)) h,
     )
 
 pub returns : goal.returns
@@ -30,10 +30,10 @@ unfolding header
 returns c =
     let a = c.args in
     let k = get_or a.feed.now a.at 0 in
-    let h : body-length k ≤ length a.feed.now - (a.at + 1) = rw c.body_length-needed.ensures at c.if-present-needed.false in
+    let h : body_length k ≤ length a.feed.now - (a.at + 1) = rw c.body_length-needed.ensures at c.if-present-needed.false in
     rw (
       lt-ltb a.at (length a.feed.now) c.if-feed-at.false,
       le-leb k 6 c.if-kind-gt-LAST_KIND.false,
-      le-leb (body-length k) (length a.feed.now - (a.at + 1)) h,
+      le-leb (body_length k) (length a.feed.now - (a.at + 1)) h,
       c.body_length-needed.ensures,
     )

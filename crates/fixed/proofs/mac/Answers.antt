@@ -1,11 +1,11 @@
 use mir.Syntax.{w32}
 use mir.Facts.{to_z-of_z}
-use Rattle.fixed.specs.Operators.{L-mac}
+use Rattle.fixed.specs.Operators.{L_mac}
 use Rattle.fixed.proofs.Bounds.{got}
 use Rattle.fixed.proofs.mac.Goals as goal
 
 pub returns : goal.returns
-unfolding L-mac
+unfolding L_mac
 returns c =
     let s = c in
     simp (

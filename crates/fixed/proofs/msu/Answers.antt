@@ -1,11 +1,11 @@
 use mir.Syntax.{w32}
 use mir.Facts.{to_z-of_z}
-use Rattle.fixed.specs.Operators.{L-msu}
+use Rattle.fixed.specs.Operators.{L_msu}
 use Rattle.fixed.proofs.Bounds.{got}
 use Rattle.fixed.proofs.msu.Goals as goal
 
 pub returns : goal.returns
-unfolding L-msu
+unfolding L_msu
 returns c =
     let s = c in
     simp (

@@ -1,12 +1,12 @@
 use mir.Facts.{to_z-of_z}
 use mir.Syntax.{w32}
-use Rattle.fixed.specs.Operators.{L-sub}
-use Rattle.fixed.proofs.Bounds.{got, fits_32_64, difference-64}
+use Rattle.fixed.specs.Operators.{L_sub}
+use Rattle.fixed.proofs.Bounds.{got, fits_32_64, difference_64}
 use Rattle.fixed.proofs.sub32.Goals as goal
 
 pub returns : goal.returns
-unfolding L-sub
+unfolding L_sub
 returns c =
     let f = c.ranges.a in
     let g = c.ranges.b in
-    got w32 c.clip32.type_inv (simp (to_z-of_z, fits_32_64, difference-64) at c.clip32.ensures)
+    got w32 c.clip32.type_inv (simp (to_z-of_z, fits_32_64, difference_64) at c.clip32.ensures)

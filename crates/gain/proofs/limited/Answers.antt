@@ -10,26 +10,26 @@ use borrow.Author.Rules.{rules}
 use Rattle.fixed.proofs.Bounds.{got}
 use Rattle.fixed.proofs.Signs.{le_not_lt}
 use Rattle.refusal.specs.Refused.{values, refused}
-use Rattle.refusal.specs.Checks.{checked, power-fraction}
-use Rattle.refusal.proofs.Checkings.{accepted-alone, refused-alone}
+use Rattle.refusal.specs.Checks.{checked, power_fraction}
+use Rattle.refusal.proofs.Checkings.{accepted_alone, refused_alone}
 use Rattle.logarithm.specs.Powers.{told, power, Pow2}
-use Rattle.gain.specs.Rows.{gcode0, Qua-gain}
+use Rattle.gain.specs.Rows.{gcode0, Qua_gain}
 use Rattle.gain.proofs.limited.Goals as goal
 
 -- the exponent of the power is good, so that its fraction alone is checked
-exponent-passes : (fraction : ℕ) → Pow2 14 fraction ≡ checked (power-fraction fraction ∷ []) refused (values (pos (power 14 fraction)))
+exponent_passes : (fraction : ℕ) → Pow2 14 fraction ≡ checked (power_fraction fraction ∷ []) refused (values (pos (power 14 fraction)))
 unfolding Pow2
-exponent-passes fraction = refl
+exponent_passes fraction = refl
 
 pub returns-in-Value : goal.returns-in-Value
-unfolding Qua-gain gcode0
+unfolding Qua_gain gcode0
 returns-in-Value c =
     let a = c.args in
     let f = to_z-of_z c.ranges.exponent in
     let low = le_not_lt a.exponent (negsuc 127) false (rw f at c.if-exponent-lt-MIN_EXPONENT.false) in
     let high = le_not_lt (pos 127) a.exponent false (rw f at c.if-exponent-gt-MAX_EXPONENT.false) in
-    let told = ap told (sym c.in-Value.is) ∙ c.pow2.ensures ∙ exponent-passes a.fraction in
-    let good = accepted-alone (power-fraction a.fraction) (pos (power 14 a.fraction)) _ told in
+    let told = ap told (sym c.in-Value.is) ∙ c.pow2.ensures ∙ exponent_passes a.fraction in
+    let good = accepted_alone (power_fraction a.fraction) (pos (power 14 a.fraction)) _ told in
     let p : to_z w32 (of_z w32 c.in-Value.power) ≡ c.in-Value.power = search rules in
     rw (
       low,
@@ -49,5 +49,5 @@ returns-in-Refused c =
     let f = to_z-of_z c.ranges.exponent in
     let low = le_not_lt a.exponent (negsuc 127) false (rw f at c.if-exponent-lt-MIN_EXPONENT.false) in
     let high = le_not_lt (pos 127) a.exponent false (rw f at c.if-exponent-gt-MAX_EXPONENT.false) in
-    let told = ap told (sym c.in-Refused.is) ∙ c.pow2.ensures ∙ exponent-passes a.fraction in
-    rw (low, high) (refused-alone (power-fraction a.fraction) (pos (power 14 a.fraction)) _ _ told)
+    let told = ap told (sym c.in-Refused.is) ∙ c.pow2.ensures ∙ exponent_passes a.fraction in
+    rw (low, high) (refused_alone (power_fraction a.fraction) (pos (power 14 a.fraction)) _ _ told)

@@ -3,10 +3,10 @@ use lib.IntN.{pos}
 use lib.ListN.{replicate}
 use mir.Facts.{to_z-of_z}
 use borrow.Author.Tests.{eq-eqb, ne_eqb}
-use Rattle.fixed.proofs.Lists.{copied-whole}
-use Rattle.refusal.specs.Checks.{known-limit}
-use Rattle.refusal.proofs.Checkings.{accepted-alone, refused-alone}
-use Rattle.gain_limit.specs.Limits.{told-limit, limit-choice}
+use Rattle.fixed.proofs.Lists.{copied_whole}
+use Rattle.refusal.specs.Checks.{known_limit}
+use Rattle.refusal.proofs.Checkings.{accepted_alone, refused_alone}
+use Rattle.gain_limit.specs.Limits.{told_limit, limit_choice}
 use Rattle.gain.specs.Rows.{quantize}
 use Rattle.gain.proofs.quantize.Goals as goal
 
@@ -28,22 +28,22 @@ returns-then-filtered_innovation_q12-ne-SUBFRAME_SAMPLES c =
     )
 
 pub returns-in-Refused : goal.returns-in-Refused
-unfolding quantize limit-choice
+unfolding quantize limit_choice
 returns-in-Refused c =
     let a = c.args in
-    let told = ap told-limit (sym c.in-Refused.is) ∙ c.try_new.ensures in
+    let told = ap told_limit (sym c.in-Refused.is) ∙ c.try_new.ensures in
     rw (
       eq-eqb _ _ c.if-target-ne-SUBFRAME_SAMPLES.false,
       eq-eqb _ _ c.if-adaptive-ne-SUBFRAME_SAMPLES.false,
       eq-eqb _ _ c.if-filtered_innovation_q12-ne-SUBFRAME_SAMPLES.false,
     )
-    (refused-alone (known-limit a.limit) a.limit _ c.in-Refused.refusal told)
+    (refused_alone (known_limit a.limit) a.limit _ c.in-Refused.refusal told)
 
 pub returns-in-Limit : goal.returns-in-Limit
-unfolding quantize limit-choice
+unfolding quantize limit_choice
 returns-in-Limit c =
     let a = c.args in
-    let told = accepted-alone (known-limit a.limit) a.limit _ (ap told-limit (sym c.in-Limit.is) ∙ c.try_new.ensures) in
+    let told = accepted_alone (known_limit a.limit) a.limit _ (ap told_limit (sym c.in-Limit.is) ∙ c.try_new.ensures) in
     rw (
       eq-eqb _ _ c.if-target-ne-SUBFRAME_SAMPLES.false,
       eq-eqb _ _ c.if-adaptive-ne-SUBFRAME_SAMPLES.false,
@@ -54,8 +54,8 @@ returns-in-Limit c =
       c.forty.ensures,
       c.forty-in-Limit.ensures,
       c.forty-in-Limit-2.ensures,
-      copied-whole 40 a.target.now (replicate 40 (pos 0)) c.if-target-ne-SUBFRAME_SAMPLES.false refl,
-      copied-whole 40 a.adaptive.now (replicate 40 (pos 0)) c.if-adaptive-ne-SUBFRAME_SAMPLES.false refl,
-      copied-whole 40 a.filtered_innovation_q12.now (replicate 40 (pos 0)) c.if-filtered_innovation_q12-ne-SUBFRAME_SAMPLES.false refl,
+      copied_whole 40 a.target.now (replicate 40 (pos 0)) c.if-target-ne-SUBFRAME_SAMPLES.false refl,
+      copied_whole 40 a.adaptive.now (replicate 40 (pos 0)) c.if-adaptive-ne-SUBFRAME_SAMPLES.false refl,
+      copied_whole 40 a.filtered_innovation_q12.now (replicate 40 (pos 0)) c.if-filtered_innovation_q12-ne-SUBFRAME_SAMPLES.false refl,
       sym told.1,
     )

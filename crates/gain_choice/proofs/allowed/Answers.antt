@@ -13,10 +13,10 @@ use borrow.Author.Count.{below_more}
 use borrow.Author.Rules.{rules}
 use Rattle.fixed.specs.Lists.{at}
 use Rattle.fixed.proofs.Bounds.{got}
-use Rattle.fixed.proofs.Lists.{at-tabulate, filling-more}
+use Rattle.fixed.proofs.Lists.{at_tabulate, filling_more}
 use Rattle.gain_table.specs.Rows.{cell, column}
-use Rattle.gain_choice.specs.Rows.{within-limit}
-use Rattle.gain_choice.proofs.Passes.{without-limit}
+use Rattle.gain_choice.specs.Rows.{within_limit}
+use Rattle.gain_choice.proofs.Passes.{without_limit}
 use Rattle.gain_choice.proofs.allowed.Goals as goal
 
 pub loop-i-preserved : goal.loop-i-preserved
@@ -26,10 +26,10 @@ loop-i-preserved c =
     let i = c.loop-i.i in
     let b : SFits w32 (at far i) = search rules in
     let p : to_z w16 (of_z w16 (at c.args.pitches_q14.now i)) ≡ at c.args.pitches_q14.now i = search rules in
-    let q : at c.args.pitches_q14.now i ≡ cell 0 i = ap (λ (l : List ℤ). at l i) c.requires ∙ at-tabulate (cell 0) (pos 0) 128 i (omega arith) in
+    let q : at c.args.pitches_q14.now i ≡ cell 0 i = ap (λ (l : List ℤ). at l i) c.requires ∙ at_tabulate (cell 0) (pos 0) 128 i (omega arith) in
     record {
       filling =
-          filling-more (λ k. cond (within-limit (to_z w16 (of_z w16 c.args.limit_q14)) k) (at far k) (pos 2147483647)) 128 i c.loop-i.distances _ (omega arith)
+          filling_more (λ k. cond (within_limit (to_z w16 (of_z w16 c.args.limit_q14)) k) (at far k) (pos 2147483647)) 128 i c.loop-i.distances _ (omega arith)
           (rw (got w32 c.within.type_inv c.within.ensures, to_z-of_z b, p, q))
           c.loop-i.invariant.filling;
       long = below_more (λ (k : ℕ). mag (at far k) < 2147483648) i c.loop-i.invariant.long b.sfits;
@@ -42,6 +42,6 @@ returns c =
     let v = c.loop-i.invariant in
     let x : to_z w32 (of_z w32 (at far 0)) ≡ at far 0 = search rules in
     rw x
-    (without-limit (within-limit c.args.limit_q14) (at far) _ (get_or-set_same xs 0 (at far 0) (pos 0) (omega (arith, v.filling.1))) 127
+    (without_limit (within_limit c.args.limit_q14) (at far) _ (get_or-set_same xs 0 (at far 0) (pos 0) (omega (arith, v.filling.1))) 127
     (λ k z l. get_or-set_other xs 0 k (at far 0) (pos 0) (λ (e : k ≡ 0). absurd (omega arith)) ∙ rw (to_z-of_z c.ranges.limit_q14) at (v.filling.2 k (omega arith)))
     (λ k l. v.long k (omega arith)))

@@ -3,13 +3,13 @@ use mir.Syntax.{w32}
 use mir.Val.{to_z, of_z}
 use mir.Facts.{to_z-of_z}
 use borrow.Author.Rules.{rules}
-use Rattle.fixed.specs.Lists.{at, L-sum}
+use Rattle.fixed.specs.Lists.{at, L_sum}
 use Rattle.fixed.proofs.Bounds.{got}
 use Rattle.gain_choice.specs.Rows.{term}
 use Rattle.gain_choice.proofs.distance.Goals as goal
 
 pub returns : goal.returns
-unfolding L-sum term
+unfolding L_sum term
 returns c =
     let ws = c.args.weights.now in
     let r = c.ranges in

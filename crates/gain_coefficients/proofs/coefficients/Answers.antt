@@ -1,11 +1,11 @@
 use mir.Syntax.{w16}
 use mir.Facts.{to_z-of_z}
 use Rattle.fixed.proofs.Bounds.{got}
-use Rattle.gain_coefficients.specs.Energies.{calc-filt-energies, exp-max, coefficients}
+use Rattle.gain_coefficients.specs.Energies.{calc_filt_energies, exp_max, coefficients}
 use Rattle.gain_coefficients.proofs.coefficients.Goals as goal
 
 pub returns : goal.returns
-unfolding coefficients exp-max calc-filt-energies
+unfolding coefficients exp_max calc_filt_energies
 returns c =
     rw (
       c.on_one_scale.ensures,

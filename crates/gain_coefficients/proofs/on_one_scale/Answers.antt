@@ -6,11 +6,11 @@ use mir.Syntax.{w16, w32}
 use mir.Val.{to_z, of_z}
 use Rattle.fixed.specs.Operators.{add}
 use Rattle.fixed.proofs.Bounds.{got}
-use Rattle.gain_coefficients.specs.Energies.{e-max, on-one-scale}
+use Rattle.gain_coefficients.specs.Energies.{e_max, on_one_scale}
 use Rattle.gain_coefficients.proofs.on_one_scale.Goals as goal
 
 pub returns : goal.returns
-unfolding on-one-scale e-max
+unfolding on_one_scale e_max
 returns c =
     let i = c.args in
     let yy : to_z w16 (of_z w16 i.yy.exponent) ≡ i.yy.exponent = search rules in
@@ -18,7 +18,7 @@ returns c =
     let zz : to_z w16 (of_z w16 i.zz.exponent) ≡ i.zz.exponent = search rules in
     let xz : to_z w16 (of_z w16 i.xz.exponent) ≡ i.xz.exponent = search rules in
     let yz : to_z w16 (of_z w16 i.yz.exponent) ≡ i.yz.exponent = search rules in
-    let top : to_z w16 (of_z w16 c.add16-top.result) ≡ add (e-max i.yy.exponent (i.xy ∷ i.zz ∷ i.xz ∷ i.yz ∷ [])) (pos 1) =
+    let top : to_z w16 (of_z w16 c.add16-top.result) ≡ add (e_max i.yy.exponent (i.xy ∷ i.zz ∷ i.xz ∷ i.yz ∷ [])) (pos 1) =
     rw (
       got w16 c.add16-top.type_inv c.add16-top.ensures,
       got w16 c.greater.type_inv c.greater.ensures,

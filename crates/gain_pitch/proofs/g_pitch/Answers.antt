@@ -3,11 +3,11 @@ use borrow.Author.Rules.{rules}
 use mir.Syntax.{w16}
 use mir.Val.{to_z, of_z}
 use Rattle.fixed.proofs.Bounds.{got}
-use Rattle.gain_pitch.specs.Gains.{coefficients, G-pitch}
+use Rattle.gain_pitch.specs.Gains.{coefficients, G_pitch}
 use Rattle.gain_pitch.proofs.g_pitch.Goals as goal
 
 pub returns : goal.returns
-unfolding G-pitch coefficients
+unfolding G_pitch coefficients
 returns c =
     let x = c.correlation-xy.result in
     let y = c.energy-yy.result in

@@ -4,18 +4,18 @@ use native.Mathlib.Numerals.{add-one}
 use borrow.Author.Rules.{rules}
 use mir.Syntax.{w16, w32}
 use mir.Val.{to_z, of_z}
-use Rattle.fixed.specs.Operators.{L-mac, L-mac-flagged}
-use Rattle.fixed.specs.Lists.{at, L-sum}
+use Rattle.fixed.specs.Operators.{L_mac, L_mac_flagged}
+use Rattle.fixed.specs.Lists.{at, L_sum}
 use Rattle.fixed.specs.declared.Flagged.{Flagged}
-use Rattle.gain_sums.specs.Sums.{sum, overflow as overflows, flagged-sum}
+use Rattle.gain_sums.specs.Sums.{sum, overflow as overflows, flagged_sum}
 use Rattle.gain_sums.proofs.clipped.Goals as goal
 
 pub loop-i-init : goal.loop-i-init
-unfolding sum L-sum overflows
+unfolding sum L_sum overflows
 loop-i-init c = record { value_is = refl; overflow_is = refl }
 
 pub loop-i-preserved : goal.loop-i-preserved
-unfolding sum L-sum overflows L-mac-flagged L-mac
+unfolding sum L_sum overflows L_mac_flagged L_mac
 loop-i-preserved c =
     let l = c.args.left.now in
     let r = c.args.right.now in
@@ -23,14 +23,14 @@ loop-i-preserved c =
     let v : to_z w32 (of_z w32 c.mac_flagged-step.result.value) ≡ c.mac_flagged-step.result.value = search rules in
     let x : to_z w16 (of_z w16 (at l i)) ≡ at l i = search rules in
     let y : to_z w16 (of_z w16 (at r i)) ≡ at r i = search rules in
-    let e : c.mac_flagged-step.result ≡ L-mac-flagged (sum l r i) (at l i) (at r i) = c.mac_flagged-step.ensures ∙ rw (c.loop-i.invariant.value_is, x, y) in
+    let e : c.mac_flagged-step.result ≡ L_mac_flagged (sum l r i) (at l i) (at r i) = c.mac_flagged-step.ensures ∙ rw (c.loop-i.invariant.value_is, x, y) in
     record {
       value_is = v ∙ rw (add-one i) (ap (λ (f : Flagged). f.value) e);
       overflow_is = rw (add-one i, c.loop-i.invariant.overflow_is, ap (λ (f : Flagged). f.overflow) e);
     }
 
 pub returns : goal.returns
-unfolding flagged-sum
+unfolding flagged_sum
 returns c =
     let e : c.loop-i.i ≡ 40 = omega arith in
     rw (c.loop-i.invariant.value_is, c.loop-i.invariant.overflow_is, e)

@@ -10,7 +10,7 @@ use mir.Val.{to_z, of_z}
 use Rattle.fixed.proofs.Bounds.{got}
 use Rattle.fixed.specs.Lists.{at}
 use Rattle.sums.specs.Plain.{plain}
-use Rattle.gain_sums.proofs.Plains.{half as half_of, half-fits, twice-fits, whole-fits, sum_is, no_overflow}
+use Rattle.gain_sums.proofs.Plains.{half as half_of, half_fits, twice_fits, whole_fits, sum_is, no_overflow}
 use Rattle.gain_sums.proofs.plain.Goals as goal
 
 pub loop-i-init : goal.loop-i-init
@@ -30,7 +30,7 @@ more c =
 
 pub overflow_add-half : goal.overflow_add-half
 overflow_add-half c =
-    rw (more c) (half-fits c.args.left.now c.args.right.now c.loop-i.invariant.quiet (c.loop-i.i + 1) (omega arith))
+    rw (more c) (half_fits c.args.left.now c.args.right.now c.loop-i.invariant.quiet (c.loop-i.i + 1) (omega arith))
 
 pub loop-i-preserved : goal.loop-i-preserved
 loop-i-preserved c = record { quiet = c.loop-i.invariant.quiet; half_is = to_z-of_z (overflow_add-half c) ∙ more c }
@@ -40,11 +40,11 @@ all : (c : goal.After-loop-i) → to_z w32 c.loop-i.half-bits ≡ half_of c.args
 all c = let e : c.loop-i.i ≡ 40 = omega arith in rw e at c.loop-i.invariant.half_is
 
 pub overflow_mul-result : goal.overflow_mul-result
-overflow_mul-result c = rw (all c) (twice-fits c.args.left.now c.args.right.now c.loop-i.invariant.quiet 40 (omega arith))
+overflow_mul-result c = rw (all c) (twice_fits c.args.left.now c.args.right.now c.loop-i.invariant.quiet 40 (omega arith))
 
 pub overflow_add-result : goal.overflow_add-result
 overflow_add-result c =
-    rw (to_z-of_z (overflow_mul-result c), all c) (whole-fits c.args.left.now c.args.right.now c.loop-i.invariant.quiet 40 (omega arith))
+    rw (to_z-of_z (overflow_mul-result c), all c) (whole_fits c.args.left.now c.args.right.now c.loop-i.invariant.quiet 40 (omega arith))
 
 pub returns : goal.returns
 returns c =

@@ -1,10 +1,10 @@
 use native.Mathlib.Omega.{arith}
 use mir.Syntax.{w32}
 use Rattle.fixed.proofs.Bounds.{got}
-use Rattle.open_loop_correlation.proofs.Energies.{energy-within}
+use Rattle.open_loop_correlation.proofs.Energies.{energy_within}
 use Rattle.open_loop_correlation.proofs.correlations.Goals as goal
 
 pub plain_table-requires : goal.plain_table-requires
 plain_table-requires c =
-    let e = energy-within c.args.words.now 0 223 (omega arith) in
+    let e = energy_within c.args.words.now 0 223 (omega arith) in
     rw (got w32 c.energy.type_inv c.energy.ensures, e) at c.if-energy-lt2147483647.true

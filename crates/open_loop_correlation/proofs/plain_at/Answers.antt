@@ -10,7 +10,7 @@ use mir.Val.{to_z, of_z}
 use Rattle.fixed.specs.Lists.{at}
 use Rattle.fixed.proofs.Bounds.{got}
 use Rattle.sums.specs.Plain.{plain}
-use Rattle.open_loop_correlation.proofs.Energies.{half, half-fits, whole-fits, whole_is}
+use Rattle.open_loop_correlation.proofs.Energies.{half, half_fits, whole_fits, whole_is}
 use Rattle.open_loop_correlation.proofs.plain_at.Goals as goal
 use Rattle.open_loop_correlation.proofs.plain_at.Goals.{After-exact-sum, After-loop-i}
 
@@ -30,7 +30,7 @@ more c =
     rw (add-one i, got w32 c.exact-sum.type_inv c.exact-sum.ensures, x, y, c.loop-i.invariant)
 
 pub overflow_add-sum : goal.overflow_add-sum
-overflow_add-sum c = rw (more c) (half-fits c.args.words.now c.args.lag c.requires.0 c.requires.1 (c.loop-i.i + 1) (omega arith))
+overflow_add-sum c = rw (more c) (half_fits c.args.words.now c.args.lag c.requires.0 c.requires.1 (c.loop-i.i + 1) (omega arith))
 
 pub loop-i-preserved : goal.loop-i-preserved
 loop-i-preserved c = to_z-of_z (overflow_add-sum c) ∙ more c
@@ -40,7 +40,7 @@ all : (c : After-loop-i) → to_z w32 c.loop-i.sum-bits ≡ half c.args.words.no
 all c = let e : c.loop-i.i ≡ 80 = omega arith in rw e at c.loop-i.invariant
 
 pub overflow_mul-result : goal.overflow_mul-result
-overflow_mul-result c = rw (all c) (whole-fits c.args.words.now c.args.lag c.requires.0 c.requires.1)
+overflow_mul-result c = rw (all c) (whole_fits c.args.words.now c.args.lag c.requires.0 c.requires.1)
 
 pub returns : goal.returns
 returns c =

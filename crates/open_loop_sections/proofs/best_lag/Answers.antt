@@ -7,12 +7,12 @@ use lib.Signed.{lt_z}
 use mir.Syntax.{w32}
 use mir.Val.{to_z, of_z}
 use Rattle.fixed.specs.Lists.{at, best}
-use Rattle.fixed.proofs.Choices.{best-more}
+use Rattle.fixed.proofs.Choices.{best_more}
 use Rattle.open_loop_sections.proofs.best_lag.Goals as goal
 
 pub loop-i-init : goal.loop-i-init
 unfolding best
-loop-i-init c = record { in_span = omega arith; lag-below = omega arith; lag_is = refl }
+loop-i-init c = record { in_span = omega arith; lag_below = omega arith; lag_is = refl }
 
 pub loop-i-preserved-then-table-lag : goal.loop-i-preserved-then-table-lag
 loop-i-preserved-then-table-lag c =
@@ -24,8 +24,8 @@ loop-i-preserved-then-table-lag c =
     let t = rw (x, y, s.invariant.lag_is) at c.if-table-lag.true in
     record {
       in_span = omega arith;
-      lag-below = omega arith;
-      lag_is = sym (best-more lt_z (at ts) c.args.low s.i k true (omega arith) t);
+      lag_below = omega arith;
+      lag_is = sym (best_more lt_z (at ts) c.args.low s.i k true (omega arith) t);
     }
 
 pub loop-i-preserved : goal.loop-i-preserved
@@ -38,6 +38,6 @@ loop-i-preserved c =
     let t = rw (x, y, s.invariant.lag_is) at c.if-table-lag.false in
     record {
       in_span = omega arith;
-      lag-below = omega arith;
-      lag_is = s.invariant.lag_is ∙ sym (best-more lt_z (at ts) c.args.low s.i k false (omega arith) t);
+      lag_below = omega arith;
+      lag_is = s.invariant.lag_is ∙ sym (best_more lt_z (at ts) c.args.low s.i k false (omega arith) t);
     }

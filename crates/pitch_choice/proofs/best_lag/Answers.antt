@@ -3,15 +3,15 @@ use mir.Syntax.{w16}
 use mir.Val.{to_z, of_z}
 use borrow.Author.Rules.{rules}
 use Rattle.fixed.specs.Lists.{at, better, best}
-use Rattle.pitch_choice.specs.Choices.{best-lag}
+use Rattle.pitch_choice.specs.Choices.{best_lag}
 use Rattle.pitch_choice.proofs.best_lag.Goals as goal
 
 pub loop-i-init : goal.loop-i-init
-unfolding best-lag best
+unfolding best_lag best
 loop-i-init c = (omega arith, omega arith, omega arith, refl)
 
 pub loop-i-preserved-then-correlation-start : goal.loop-i-preserved-then-correlation-start
-unfolding best-lag best better
+unfolding best_lag best better
 loop-i-preserved-then-correlation-start c =
     let cs = c.args.correlation.now in
     let start = c.args.start in
@@ -21,7 +21,7 @@ loop-i-preserved-then-correlation-start c =
     (omega arith, omega arith, omega arith, rw (add-one c.loop-i.i, t))
 
 pub loop-i-preserved : goal.loop-i-preserved
-unfolding best-lag best better
+unfolding best_lag best better
 loop-i-preserved c =
     let cs = c.args.correlation.now in
     let start = c.args.start in

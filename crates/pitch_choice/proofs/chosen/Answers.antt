@@ -1,12 +1,12 @@
 use Rattle.std.proofs.Common.{ℕ, ◌≡◌, ◌+◌, ◌≤◌, arith}
 use mathlib.Core.List.{List}
 use lib.IntN.{ℤ}
-use Rattle.pitch_choice.specs.Choices.{best-lag, chosen}
-use Rattle.pitch_choice.proofs.Choosings.{best-lag-in}
+use Rattle.pitch_choice.specs.Choices.{best_lag, chosen}
+use Rattle.pitch_choice.proofs.Choosings.{best_lag_in}
 use Rattle.pitch_choice.proofs.chosen.Goals as goal
 
-inside : (cs : List ℤ) (start span lag : ℕ) → (20 ≤ start) × (start + span ≤ 143) → lag ≡ best-lag cs start span → (20 ≤ lag) × (lag ≤ 143)
-inside cs start span lag h e = let b = best-lag-in cs start span in (omega arith, omega arith)
+inside : (cs : List ℤ) (start span lag : ℕ) → (20 ≤ start) × (start + span ≤ 143) → lag ≡ best_lag cs start span → (20 ≤ lag) × (lag ≤ 143)
+inside cs start span lag h e = let b = best_lag_in cs start span in (omega arith, omega arith)
 
 pub overflow_cast-lag : goal.overflow_cast-lag
 overflow_cast-lag c = omega (arith, (inside _ _ _ _ c.requires c.best_lag-lag.ensures).1)

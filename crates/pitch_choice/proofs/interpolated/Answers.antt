@@ -4,15 +4,15 @@ use mir.Syntax.{w16, w32}
 use mir.Val.{to_z, of_z}
 use borrow.Author.Rules.{rules}
 use Rattle.fixed.specs.Lists.{at}
-use Rattle.pitch_choice.specs.Choices.{interpolated-to, Interpol-6}
+use Rattle.pitch_choice.specs.Choices.{interpolated_to, Interpol_6}
 use Rattle.pitch_choice.proofs.interpolated.Goals as goal
 
 pub loop-i-init : goal.loop-i-init
-unfolding interpolated-to
+unfolding interpolated_to
 loop-i-init c = refl
 
 pub loop-i-preserved : goal.loop-i-preserved
-unfolding interpolated-to
+unfolding interpolated_to
 loop-i-preserved c =
     let cs = c.args.correlation.now in
     let t = c.args.table.now in
@@ -28,7 +28,7 @@ loop-i-preserved c =
     rw (add-one i, r, c.mac-sum-in-loop-i.ensures, q, c.mac-sum.ensures, x, y, v, w, c.loop-i.invariant, c.requires.0)
 
 pub returns : goal.returns
-unfolding Interpol-6
+unfolding Interpol_6
 returns c =
     let e : c.loop-i.i ≡ 4 = omega arith in
     let r : to_z w16 (of_z w16 c.rounded.result) ≡ c.rounded.result = search rules in

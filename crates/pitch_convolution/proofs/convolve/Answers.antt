@@ -2,9 +2,9 @@ use mathlib.Core.Path.{◌≡◌, refl}
 use lib.IntN.{pos}
 use lib.ListN.{replicate}
 use borrow.Author.Tests.{eq-eqb, ne_eqb}
-use Rattle.fixed.proofs.Lists.{copied-whole}
+use Rattle.fixed.proofs.Lists.{copied_whole}
 use Rattle.pitch_convolution.specs.Filters.{Convolve, convolve}
-use Rattle.pitch_convolution.proofs.Lengths.{convolve-length}
+use Rattle.pitch_convolution.proofs.Lengths.{convolve_length}
 use Rattle.pitch_convolution.proofs.convolve.Goals as goal
 
 pub returns-then-input-ne-SUBFRAME_SAMPLES : goal.returns-then-input-ne-SUBFRAME_SAMPLES
@@ -37,11 +37,11 @@ returns c =
     rw (
       c.convolved-filtered.ensures,
       c.forty-impulse.ensures,
-      copied-whole 40 i.impulse_q12.now (replicate 40 (pos 0)) c.if-impulse_q12-ne-SUBFRAME_SAMPLES.false refl,
+      copied_whole 40 i.impulse_q12.now (replicate 40 (pos 0)) c.if-impulse_q12-ne-SUBFRAME_SAMPLES.false refl,
       c.forty-words.ensures,
-      copied-whole 40 i.input.now (replicate 40 (pos 0)) c.if-input-ne-SUBFRAME_SAMPLES.false refl,
+      copied_whole 40 i.input.now (replicate 40 (pos 0)) c.if-input-ne-SUBFRAME_SAMPLES.false refl,
     )
     in (
       rw (a, b, d),
-      rw (a, b, d, c.copy.ensures, whole) (copied-whole 40 (Convolve i.input.now i.impulse_q12.now) i.output.now (convolve-length i.input.now i.impulse_q12.now) c.if-output-ne-SUBFRAME_SAMPLES.false),
+      rw (a, b, d, c.copy.ensures, whole) (copied_whole 40 (Convolve i.input.now i.impulse_q12.now) i.output.now (convolve_length i.input.now i.impulse_q12.now) c.if-output-ne-SUBFRAME_SAMPLES.false),
     )

@@ -13,36 +13,36 @@ use mir.Syntax.{w16, w32}
 use mir.Val.{to_z, of_z}
 use Rattle.fixed.specs.Lists.{at, between, dot}
 use Rattle.fixed.proofs.Bounds.{got}
-use Rattle.fixed.proofs.Lists.{filled-all, none-placed, zeros, placed-more}
+use Rattle.fixed.proofs.Lists.{filled_all, none_placed, zeros, placed_more}
 use Rattle.sums.specs.Plain.{squared, peak}
-use Rattle.sums.proofs.Sums.{energy-is}
-use Rattle.sums.proofs.Reaches.{peak-le}
-use Rattle.pitch_correlation.specs.Correlations.{loud, filtered, normalized, correlation-at, correlations-from}
-use Rattle.pitch_correlation.proofs.Growth.{Known, first-quiet, next-quiet}
+use Rattle.sums.proofs.Sums.{energy_is}
+use Rattle.sums.proofs.Reaches.{peak_le}
+use Rattle.pitch_correlation.specs.Correlations.{loud, filtered, normalized, correlation_at, correlations_from}
+use Rattle.pitch_correlation.proofs.Growth.{Known, first_quiet, next_quiet}
 use Rattle.pitch_correlation.proofs.correlated.Goals as goal
 
 -- what is known before the first walk
 scale : (x : List ℤ) (s : ℕ) (b : Bool) → s ≡ squared (at x) 40 → b ≡ lt_z (pos 67108864) (pos (min (2 * s) 2147483647)) → b ≡ loud x
 unfolding loud
-scale x s b e f = f ∙ rw (e, energy-is x 40)
+scale x s b e f = f ∙ rw (e, energy_is x 40)
 
 known : (ts hs : List ℤ) (room p q : ℕ) → (room < 2 ^ 30) × (room * squared (at ts) 40 < 2 ^ 60) → q ≡ peak (at hs) 40 → p ≡ max q 4096 → Known ts hs room p
-known ts hs room p q r e f = (r.0, r.1, omega (arith, f), λ k h. omega (arith, e, f, peak-le (at hs) 40 k h))
+known ts hs room p q r e f = (r.0, r.1, omega (arith, f), λ k h. omega (arith, e, f, peak_le (at hs) 40 k h))
 
 pub energy_and_sum-at_low-requires : goal.energy_and_sum-at_low-requires
 energy_and_sum-at_low-requires c t =
     let a = c.args in
     let h = rw c.squares40-squares.ensures at (leb-true c.squares40-squares.result c.room-room.result t) in
     rw c.scaled_all-filtered.ensures
-    (first-quiet a.target.now a.impulse.now c.room-room.result c.greater-peak.result (known _ _ _ _ _ c.room-room.ensures c.peak.ensures c.greater-peak.ensures) c.is_loud-loud.result a.first.now h)
+    (first_quiet a.target.now a.impulse.now c.room-room.result c.greater-peak.result (known _ _ _ _ _ c.room-room.ensures c.peak.ensures c.greater-peak.ensures) c.is_loud-loud.result a.first.now h)
 
 pub loop-next-init : goal.loop-next-init
-unfolding filtered correlation-at normalized
+unfolding filtered correlation_at normalized
 loop-next-init c =
     let a = c.args in
     let l = c.is_loud-loud.result in
     let r = c.energy_and_sum-at_low.result in
-    let corr : ℕ → ℤ = correlation-at l a.excitation.now a.target.now a.impulse.now a.low a.first.now in
+    let corr : ℕ → ℤ = correlation_at l a.excitation.now a.target.now a.impulse.now a.low a.first.now in
     let v : ℤ = to_z w16 (of_z w16 c.normalized.result) in
     let z : a.low - a.low ≡ 0 = omega arith in
     let o : a.low + 1 - 1 - a.low ≡ 0 = omega arith in
@@ -61,7 +61,7 @@ loop-next-init c =
       rw (o, c.scaled_all-filtered.ensures),
       en,
       length-set (replicate 148 (pos 0)) a.low v,
-      placed-more corr (λ k. pos 0) a.low a.low 148 (replicate 148 (pos 0)) v (le_refl a.low) (omega (arith, c.requires.1, c.requires.2)) n (none-placed corr (λ k. pos 0) a.low 148 (replicate 148 (pos 0)) (zeros 148)),
+      placed_more corr (λ k. pos 0) a.low a.low 148 (replicate 148 (pos 0)) v (le_refl a.low) (omega (arith, c.requires.1, c.requires.2)) n (none_placed corr (λ k. pos 0) a.low 148 (replicate 148 (pos 0)) (zeros 148)),
     )
 
 pub energy_and_sum-at_next-requires : goal.energy_and_sum-at_next-requires
@@ -70,16 +70,16 @@ energy_and_sum-at_next-requires c t =
     let p = c.room-room.result in
     let h = rw c.most_added.ensures.0 at (leb-true _ p (sym c.is_within-plain.ensures ∙ t)) in
     rw c.update-filtered.ensures
-    (next-quiet a.target.now a.impulse.now p _ c.loop-next.invariant.5 _ _ c.loop-next.filtered _ c.loop-next.invariant.8 h)
+    (next_quiet a.target.now a.impulse.now p _ c.loop-next.invariant.5 _ _ c.loop-next.filtered _ c.loop-next.invariant.8 h)
 
 pub loop-next-preserved : goal.loop-next-preserved
-unfolding filtered correlation-at normalized
+unfolding filtered correlation_at normalized
 loop-next-preserved c =
     let a = c.args in
     let l = c.is_loud-loud.result in
     let n = c.loop-next.next in
     let r = c.energy_and_sum-at_next.result in
-    let corr : ℕ → ℤ = correlation-at l a.excitation.now a.target.now a.impulse.now a.low a.first.now in
+    let corr : ℕ → ℤ = correlation_at l a.excitation.now a.target.now a.impulse.now a.low a.first.now in
     let v : ℤ = to_z w16 (of_z w16 c.normalized-in-loop-next.result) in
     let k = n - 1 - a.low in
     let o : n + 1 - 1 - a.low ≡ suc k = omega (arith, c.loop-next.invariant.0) in
@@ -104,14 +104,14 @@ loop-next-preserved c =
       rw o f,
       en,
       length-set c.loop-next.correlation n v ∙ c.loop-next.invariant.9,
-      placed-more corr (λ k. pos 0) a.low n 148 c.loop-next.correlation v (omega (arith, c.loop-next.invariant.0)) (omega (arith, c.loop-next.invariant.9)) w c.loop-next.invariant.10,
+      placed_more corr (λ k. pos 0) a.low n 148 c.loop-next.correlation v (omega (arith, c.loop-next.invariant.0)) (omega (arith, c.loop-next.invariant.9)) w c.loop-next.invariant.10,
     )
 
 pub returns : goal.returns
-unfolding correlations-from
+unfolding correlations_from
 returns c =
     let a = c.args in
     let l = c.is_loud-loud.result in
-    let corr : ℕ → ℤ = correlation-at l a.excitation.now a.target.now a.impulse.now a.low a.first.now in
+    let corr : ℕ → ℤ = correlation_at l a.excitation.now a.target.now a.impulse.now a.low a.first.now in
     let e : c.loop-next.next ≡ a.end = omega arith in
-    rw (← c.loop-next.invariant.6) (filled-all (between corr (λ k. pos 0) a.low a.end) (pos 0) 148 c.loop-next.correlation c.loop-next.invariant.9 (rw e at c.loop-next.invariant.10))
+    rw (← c.loop-next.invariant.6) (filled_all (between corr (λ k. pos 0) a.low a.end) (pos 0) 148 c.loop-next.correlation c.loop-next.invariant.9 (rw e at c.loop-next.invariant.10))

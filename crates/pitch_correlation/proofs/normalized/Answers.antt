@@ -1,12 +1,12 @@
 use mir.Facts.{to_z-of_z}
 use mir.Syntax.{w16, w32}
 use Rattle.fixed.proofs.Bounds.{got}
-use Rattle.fixed.proofs.Products.{high-whole}
-use Rattle.energy.specs.Root.{Inv-sqrt}
+use Rattle.fixed.proofs.Products.{high_whole}
+use Rattle.energy.specs.Root.{Inv_sqrt}
 use Rattle.pitch_correlation.proofs.normalized.Goals as goal
 
 pub returns : goal.returns
-unfolding Inv-sqrt
+unfolding Inv_sqrt
 returns c =
     rw (
       got w16 c.clip16.type_inv c.clip16.ensures,
@@ -15,5 +15,5 @@ returns c =
       to_z-of_z c.ranges.sum,
       to_z-of_z c.ranges.energy,
       c.requires,
-      high-whole _,
+      high_whole _,
     )

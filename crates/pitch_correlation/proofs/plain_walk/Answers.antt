@@ -8,10 +8,10 @@ use lib.IntN.{ℤ, pos, nat_abs, ◌+ℤ◌, ◌*ℤ◌}
 use mir.Syntax.{w32}
 use mir.Val.{SFits, to_z, of_z}
 use mir.Facts.{to_z-of_z}
-use Rattle.fixed.specs.Lists.{at, L-sum, dot}
-use Rattle.fixed.proofs.Bounds.{got, fits-abs}
+use Rattle.fixed.specs.Lists.{at, L_sum, dot}
+use Rattle.fixed.proofs.Bounds.{got, fits_abs}
 use Rattle.sums.specs.Plain.{weighed}
-use Rattle.sums.proofs.Reaches.{clipped-le, weighed-more, half-more}
+use Rattle.sums.proofs.Reaches.{clipped_le, weighed_more, half_more}
 use Rattle.pitch_correlation.proofs.plain_walk.Goals as goal
 
 -- either sum: half of it is carried
@@ -19,21 +19,21 @@ module _ (xs ys : List ℤ) (below : weighed (at xs) (at ys) 40 < 2 ^ 30) where
   one_more : (n : ℕ) (z : ℤ) → n < 40 → pos 2 *ℤ z ≡ dot xs ys n →
       (nat_abs (z +ℤ at xs n *ℤ at ys n) < 2 ^ 30) × (pos 2 *ℤ (z +ℤ at xs n *ℤ at ys n) ≡ dot xs ys (suc n))
   unfolding dot
-  one_more n z l e = half-more (at xs) (at ys) n z (omega (arith, below, weighed-more (at xs) (at ys) (suc n) 40 l)) e
+  one_more n z l e = half_more (at xs) (at ys) n z (omega (arith, below, weighed_more (at xs) (at ys) (suc n) 40 l)) e
 
   doubled : (n : ℕ) (z : ℤ) → n ≤ 40 → pos 2 *ℤ z ≡ dot xs ys n → SFits w32 (pos 2 *ℤ z)
   unfolding dot
-  doubled n z l e = rw e (fits-abs w32 (dot xs ys n) (omega (arith, below, clipped-le (at xs) (at ys) n, weighed-more (at xs) (at ys) n 40 l)))
+  doubled n z l e = rw e (fits_abs w32 (dot xs ys n) (omega (arith, below, clipped_le (at xs) (at ys) n, weighed_more (at xs) (at ys) n 40 l)))
 
   -- a term more, p
   fits : (n : ℕ) (z p : ℤ) → n < 40 → p ≡ at xs n *ℤ at ys n → pos 2 *ℤ z ≡ dot xs ys n → SFits w32 (z +ℤ p)
-  fits n z p l f e = rw f (fits-abs w32 _ (omega (arith, (one_more n z l e).0)))
+  fits n z p l f e = rw f (fits_abs w32 _ (omega (arith, (one_more n z l e).0)))
 
   next : (n : ℕ) (z p : ℤ) → n < 40 → p ≡ at xs n *ℤ at ys n → pos 2 *ℤ z ≡ dot xs ys n → pos 2 *ℤ to_z w32 (of_z w32 (z +ℤ p)) ≡ dot xs ys (n + 1)
   next n z p l f e = rw (add-one n, to_z-of_z (fits n z p l f e), f) (one_more n z l e).1
 
 pub loop-i-init : goal.loop-i-init
-unfolding dot L-sum
+unfolding dot L_sum
 loop-i-init c = (refl, refl)
 
 pub overflow_add-energy : goal.overflow_add-energy

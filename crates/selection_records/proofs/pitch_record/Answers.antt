@@ -1,6 +1,6 @@
 use Rattle.std.proofs.Common.{refl, arith}
 use borrow.Author.Tests.{ne_eqb, eq-eqb}
-use Rattle.feed.proofs.Wordings.{words-read}
+use Rattle.feed.proofs.Wordings.{words_read}
 use Rattle.selection_records.specs.Records.{pitch}
 use Rattle.selection_records.proofs.pitch_record.Goals as goal
 
@@ -19,5 +19,5 @@ returns c ws =
       c.forty-impulse.ensures,
       c.forty-target.ensures,
       c.read_words.ensures,
-      words-read c.args.body.now 1 194 _ refl (omega arith),
+      words_read c.args.body.now 1 194 _ refl (omega arith),
     )

@@ -9,9 +9,9 @@ use mir.Syntax.{w16, w32}
 use mir.Val.{SFits, to_z, of_z}
 use mir.Facts.{to_z-of_z}
 use Rattle.fixed.specs.Lists.{at}
-use Rattle.fixed.proofs.Bounds.{got, fits-abs, abs-mul}
+use Rattle.fixed.proofs.Bounds.{got, fits_abs, abs_mul}
 use Rattle.sums.specs.Plain.{plain, weighed}
-use Rattle.sums.proofs.Reaches.{plain-le, weighed-more}
+use Rattle.sums.proofs.Reaches.{plain_le, weighed_more}
 use Rattle.sums.proofs.plain_sum.Goals as goal
 
 -- the terms, by their places
@@ -20,7 +20,7 @@ words rs from k = at rs (from + k)
 
 -- no sum of the first terms passes a long's ends
 below : (x y : ℕ → ℤ) (k : ℕ) → k ≤ 40 → weighed x y 40 < 2 ^ 30 → nat_abs (plain x y k) < 2 ^ 30
-below x y k h b = omega (arith, plain-le x y k, weighed-more x y k 40 h)
+below x y k h b = omega (arith, plain_le x y k, weighed_more x y k 40 h)
 
 -- a term more
 one_more : (x y : ℕ → ℤ) (k : ℕ) (s p : ℤ) → s ≡ plain x y k → p ≡ x k *ℤ y k → s +ℤ p ≡ plain x y (suc k)
@@ -28,10 +28,10 @@ unfolding plain
 one_more x y k s p e f = rw (e, f)
 
 fits : (x y : ℕ → ℤ) (k : ℕ) (s p : ℤ) → k < 40 → weighed x y 40 < 2 ^ 30 → s ≡ plain x y k → p ≡ x k *ℤ y k → SFits w32 (s +ℤ p)
-fits x y k s p h b e f = rw (one_more x y k s p e f) (fits-abs w32 _ (omega (arith, below x y (suc k) (omega arith) b)))
+fits x y k s p h b e f = rw (one_more x y k s p e f) (fits_abs w32 _ (omega (arith, below x y (suc k) (omega arith) b)))
 
 doubled : (x y : ℕ → ℤ) (k : ℕ) (s : ℤ) → k ≤ 40 → weighed x y 40 < 2 ^ 30 → s ≡ plain x y k → SFits w32 (pos 2 *ℤ s)
-doubled x y k s h b e = rw e (fits-abs w32 (pos 2 *ℤ plain x y k) (rw (abs-mul (pos 2) (plain x y k)) (omega (arith, below x y k h b))))
+doubled x y k s h b e = rw e (fits_abs w32 (pos 2 *ℤ plain x y k) (rw (abs_mul (pos 2) (plain x y k)) (omega (arith, below x y k h b))))
 
 pub loop-k-init : goal.loop-k-init
 unfolding plain

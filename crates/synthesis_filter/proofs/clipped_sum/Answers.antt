@@ -3,16 +3,16 @@ use Prim.Native.Nat.{◌-◌, ◌+◌}
 use mir.Syntax.{w16, w32}
 use mir.Val.{to_z, of_z}
 use Rattle.fixed.proofs.Bounds.{got}
-use Rattle.fixed.specs.Operators.{L-mult}
+use Rattle.fixed.specs.Operators.{L_mult}
 use Rattle.fixed.specs.Lists.{at}
-use Rattle.synthesis_filter.specs.Synthesis.{less-past}
-use Rattle.synthesis_filter.proofs.Samples.{less-more}
+use Rattle.synthesis_filter.specs.Synthesis.{less_past}
+use Rattle.synthesis_filter.proofs.Samples.{less_more}
 use borrow.Author.Rules.{rules}
 use native.Mathlib.Omega.{arith}
 use Rattle.synthesis_filter.proofs.clipped_sum.Goals as goal
 
 pub loop-tap-init : goal.loop-tap-init
-unfolding less-past
+unfolding less_past
 loop-tap-init c =
     let cs = c.args.coefficients.now in
     let x : to_z w16 (of_z w16 (at cs 0)) ≡ at cs 0 = search rules in
@@ -26,5 +26,5 @@ loop-tap-preserved c =
     let x : to_z w16 (of_z w16 (at cs (n + 1))) ≡ at cs (n + 1) = search rules in
     let y : to_z w16 (of_z w16 (at ys (c.args.place - (n + 1)))) ≡ at ys (c.args.place - (n + 1)) = search rules in (
       omega arith,
-      rw (got w32 c.msu-sum.type_inv c.msu-sum.ensures, x, y, c.loop-tap.invariant.1) (less-more cs ys c.args.place (L-mult (to_z w16 (of_z w16 c.args.excitation)) (at cs 0)) n),
+      rw (got w32 c.msu-sum.type_inv c.msu-sum.ensures, x, y, c.loop-tap.invariant.1) (less_more cs ys c.args.place (L_mult (to_z w16 (of_z w16 c.args.excitation)) (at cs 0)) n),
     )

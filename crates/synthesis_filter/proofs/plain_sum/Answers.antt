@@ -5,9 +5,9 @@ use lib.IntN.{pos, ◌-ℤ◌, ◌*ℤ◌}
 use mir.Syntax.{w16, w32}
 use mir.Val.{to_z, of_z}
 use mir.Facts.{to_z-of_z}
-use Rattle.fixed.proofs.Bounds.{got, fits-abs, abs-mul}
+use Rattle.fixed.proofs.Bounds.{got, fits_abs, abs_mul}
 use Rattle.fixed.specs.Lists.{at}
-use Rattle.synthesis_filter.proofs.Plainly.{tapped, exact-less, exact_above, bound-above, plain-filter}
+use Rattle.synthesis_filter.proofs.Plainly.{tapped, exact_less, exact_above, bound_above, plain_filter}
 use borrow.Author.Rules.{rules}
 use Rattle.synthesis_filter.proofs.plain_sum.Goals as goal
 
@@ -31,7 +31,7 @@ overflow_sub-sum c =
     let q : c.loop-tap.tap ≡ suc m = omega arith in
     let h = rw q at c.loop-tap.invariant.1 in
     let z = to_z w32 c.loop-tap.sum-bits in
-    rw (product c) (fits-abs w32 (z -ℤ tapped cs ys c.args.place m) (omega (arith, h, bound-above cs ys c.args.place z m)))
+    rw (product c) (fits_abs w32 (z -ℤ tapped cs ys c.args.place m) (omega (arith, h, bound_above cs ys c.args.place z m)))
 
 pub loop-tap-preserved : goal.loop-tap-preserved
 loop-tap-preserved c =
@@ -44,19 +44,19 @@ loop-tap-preserved c =
     let h = rw q at c.loop-tap.invariant.1 in
     let z = to_z w32 c.loop-tap.sum-bits in
     let d = z -ℤ tapped cs ys place m in
-    let b = bound-above cs ys place z m in
-    let f : to_z w32 (of_z w32 (z -ℤ to_z w32 (of_z w32 c.exact-sum-in-loop-tap.result))) ≡ d = rw e (to_z-of_z (fits-abs w32 d (omega (arith, h, b)))) in (
+    let b = bound_above cs ys place z m in
+    let f : to_z w32 (of_z w32 (z -ℤ to_z w32 (of_z w32 c.exact-sum-in-loop-tap.result))) ≡ d = rw e (to_z-of_z (fits_abs w32 d (omega (arith, h, b)))) in (
       omega arith,
       rw f (omega (arith, h, b)),
       rw f (exact_above cs ys place z m ∙ rw q at c.loop-tap.invariant.2),
     )
 
 pub returns : goal.returns
-unfolding exact-less
+unfolding exact_less
 returns c =
     let cs = c.args.coefficients.now in
     let z = to_z w32 c.loop-tap.sum-bits in
     let n : c.loop-tap.tap ≡ 0 = omega arith in
     let e = rw (to_z-of_z c.ranges.excitation, n) at c.loop-tap.invariant.2 in
-    to_z-of_z (fits-abs w32 (pos 2 *ℤ z) (rw (abs-mul (pos 2) z) (omega (arith, c.loop-tap.invariant.1))))
-    ∙ rw e (sym (plain-filter cs c.args.samples.now c.args.place c.args.excitation c.requires.3))
+    to_z-of_z (fits_abs w32 (pos 2 *ℤ z) (rw (abs_mul (pos 2) z) (omega (arith, c.loop-tap.invariant.1))))
+    ∙ rw e (sym (plain_filter cs c.args.samples.now c.args.place c.args.excitation c.requires.3))

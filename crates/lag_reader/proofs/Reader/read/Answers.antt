@@ -5,25 +5,25 @@ use Prim.Native.Nat.{ℕ, ◌≤◌}
 use lib.Dec.{ltb, leb}
 use borrow.Author.Tests.{ltb-true, ltb-false, le-leb, lt-leb, eq-eqb, ne_eqb}
 use Rattle.refusal.specs.Refused.{values}
-use Rattle.refusal.specs.Checks.{unless-refused, in_order}
-use Rattle.pitch.specs.Kinds.{subframe-number, absolute, following}
-use Rattle.pitch.specs.Indexes.{lag-of}
+use Rattle.refusal.specs.Checks.{unless_refused, in_order}
+use Rattle.pitch.specs.Kinds.{subframe_number, absolute, following}
+use Rattle.pitch.specs.Indexes.{lag_of}
 use Rattle.lag_reader.specs.declared.Reader.{Reader}
-use Rattle.lag_reader.specs.Readers.{relative-index-fits, read}
+use Rattle.lag_reader.specs.Readers.{relative_index_fits, read}
 use Rattle.lag_reader.proofs.Reader.read.Goals as goal
 
 -- the one test of number 5
-width-test : (a : Bool) (i : ℕ) (t : Bool) → (not a && ltb 31 i) ≡ t → (a || leb i 31) ≡ not t
-width-test true i t e = rw (← e)
-width-test false i true e = lt-leb i 31 (ltb-true 31 i e)
-width-test false i false e = le-leb i 31 (ltb-false 31 i e)
+width_test : (a : Bool) (i : ℕ) (t : Bool) → (not a && ltb 31 i) ≡ t → (a || leb i 31) ≡ not t
+width_test true i t e = rw (← e)
+width_test false i true e = lt-leb i 31 (ltb-true 31 i e)
+width_test false i false e = le-leb i 31 (ltb-false 31 i e)
 
 -- past number 2
 past : (r : Reader) (n index : ℕ) → 1 ≤ n → n ≤ 4 → read r n index
-    ≡ unless-refused (in_order (subframe-number r.next) n ∷ relative-index-fits r.next index ∷ []) r
+    ≡ unless_refused (in_order (subframe_number r.next) n ∷ relative_index_fits r.next index ∷ []) r
     (record {
-      answer = values (lag-of r.next r.previous.samples index);
-      after = record { previous = lag-of r.next r.previous.samples index; next = following r.next };
+      answer = values (lag_of r.next r.previous.samples index);
+      after = record { previous = lag_of r.next r.previous.samples index; next = following r.next };
     })
 unfolding read
 past r n index low high = rw (le-leb 1 n low, le-leb n 4 high)
@@ -43,7 +43,7 @@ returns-then-subframe-number c =
     let a = c.args in
     rw (
       past a.self a.subframe a.index c.if-subframe-lt1.false c.if-subframe-gt4.false,
-      ne_eqb a.subframe (subframe-number a.self.next) (λ e. c.if-subframe-number.true (e ∙ sym c.number.ensures)),
+      ne_eqb a.subframe (subframe_number a.self.next) (λ e. c.if-subframe-number.true (e ∙ sym c.number.ensures)),
       ← c.number-then-subframe-number.ensures,
     )
     c.refused-then-subframe-number.ensures
@@ -54,8 +54,8 @@ returns-then-absolute-index c =
     let t = rw c.absolute.ensures at c.if-absolute-index.true in
     rw (
       past a.self a.subframe a.index c.if-subframe-lt1.false c.if-subframe-gt4.false,
-      eq-eqb a.subframe (subframe-number a.self.next) (c.if-subframe-number.false ∙ c.number.ensures),
-      width-test (absolute a.self.next) a.index true t,
+      eq-eqb a.subframe (subframe_number a.self.next) (c.if-subframe-number.false ∙ c.number.ensures),
+      width_test (absolute a.self.next) a.index true t,
     )
     c.refused-then-absolute-index.ensures
 
@@ -65,8 +65,8 @@ returns c =
     let t = rw c.absolute.ensures at c.if-absolute-index.false in
     rw (
       past a.self a.subframe a.index c.if-subframe-lt1.false c.if-subframe-gt4.false,
-      eq-eqb a.subframe (subframe-number a.self.next) (c.if-subframe-number.false ∙ c.number.ensures),
-      width-test (absolute a.self.next) a.index false t,
+      eq-eqb a.subframe (subframe_number a.self.next) (c.if-subframe-number.false ∙ c.number.ensures),
+      width_test (absolute a.self.next) a.index false t,
       ← c.decoded.ensures,
     )
     c.taken.ensures

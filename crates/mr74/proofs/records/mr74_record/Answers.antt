@@ -1,10 +1,10 @@
 use Rattle.std.proofs.Common.{sym, ap, ◌∙◌, arith}
-use Rattle.feed.specs.Records.{told-header}
+use Rattle.feed.specs.Records.{told_header}
 use Rattle.feed.proofs.Standings.{whole_is}
 use Rattle.mr74.proofs.records.mr74_record.Goals as goal
 
 pub overflow_add-from : goal.overflow_add-from
-overflow_add-from c = let w = whole_is c.args.feed.now c.args.at _ _ (sym c.header_at.ensures ∙ ap told-header c.in-Record.is) in omega arith
+overflow_add-from c = let w = whole_is c.args.feed.now c.args.at _ _ (sym c.header_at.ensures ∙ ap told_header c.in-Record.is) in omega arith
 
 pub overflow_sub-result : goal.overflow_sub-result
-overflow_sub-result c = let w = whole_is c.args.feed.now c.args.at _ _ (sym c.header_at.ensures ∙ ap told-header c.in-Record.is) in omega arith
+overflow_sub-result c = let w = whole_is c.args.feed.now c.args.at _ _ (sym c.header_at.ensures ∙ ap told_header c.in-Record.is) in omega arith

@@ -4,8 +4,8 @@ use Prim.Native.Nat.{ℕ, ◌≤◌}
 use native.Mathlib.Omega.{arith}
 use Rattle.pitch.specs.Kinds.{absolute}
 use Rattle.pitch.specs.Indexes.{index_of}
-use Rattle.pitch_window.specs.Windows.{start_of, pitch-in}
-use Rattle.pitch_window.proofs.Sendings.{sent_back, sent-fits}
+use Rattle.pitch_window.specs.Windows.{start_of, pitch_in}
+use Rattle.pitch_window.proofs.Sendings.{sent_back, sent_fits}
 use Rattle.pitch_search.proofs.Search.accepted.Goals as goal
 
 -- a byte holds an index of either width
@@ -17,7 +17,7 @@ pub overflow_cast-index : goal.overflow_cast-index
 overflow_cast-index c =
     let a = c.args in
     let n = a.self.next in
-    let f = sent-fits a.self.previous.samples a.first a.second a.excitation.now a.target.now a.impulse.now n in
+    let f = sent_fits a.self.previous.samples a.first a.second a.excitation.now a.target.now a.impulse.now n in
     let e : c.index-index.result ≤ cond (absolute n) 255 31 = rw (c.index-index.ensures, c.chosen_lag-lag.ensures, c.window_start-start.ensures) f in
     record { fits = omega (arith, byte (absolute n) c.index-index.result e) }
 
@@ -27,7 +27,7 @@ returns c =
     let n = a.self.next in
     let p = a.self.previous.samples in
     let start = start_of n p a.first a.second in
-    let l = pitch-in n start a.excitation.now a.target.now a.impulse.now in
+    let l = pitch_in n start a.excitation.now a.target.now a.impulse.now in
     let i : c.index-index.result ≡ index_of n start l = rw (c.index-index.ensures, c.chosen_lag-lag.ensures, c.window_start-start.ensures) in
     let r : c.decoded.result ≡ l =
     rw (c.decoded.ensures, i) (sent_back p a.first a.second a.excitation.now a.target.now a.impulse.now n)

@@ -4,31 +4,31 @@ use Prim.Native.Nat.{ℕ, ◌≤◌}
 use borrow.Author.Tests.{le-leb, lt-leb, eq-eqb, ne_eqb}
 use lib.IntN.{ℤ}
 use lib.ListN.{length}
-use Rattle.refusal.specs.Checks.{unless-refused, open-loop-lag, in_order}
-use Rattle.pitch.specs.Kinds.{subframe-number}
-use Rattle.pitch.proofs.LagChecks.{lag-taken, lag-refused}
+use Rattle.refusal.specs.Checks.{unless_refused, open_loop_lag, in_order}
+use Rattle.pitch.specs.Kinds.{subframe_number}
+use Rattle.pitch.proofs.LagChecks.{lag_taken, lag_refused}
 use Rattle.pitch_search.specs.declared.Search.{Search}
-use Rattle.pitch_search.specs.Searches.{accepted, Pitch-fr}
+use Rattle.pitch_search.specs.Searches.{accepted, Pitch_fr}
 use Rattle.pitch_search.proofs.Search.search.Goals as goal
 
 -- past numbers 1 and 2
 past : (s : Search) (exc target hs : List ℤ) (first second n : ℕ) → length exc ≡ 194 → length target ≡ 40 → length hs ≡ 40 → 1 ≤ n → n ≤ 4 →
-    Pitch-fr s exc target hs first second n
-    ≡ unless-refused (open-loop-lag first ∷ open-loop-lag second ∷ in_order (subframe-number s.next) n ∷ []) s (accepted s exc target hs first second)
-unfolding Pitch-fr
+    Pitch_fr s exc target hs first second n
+    ≡ unless_refused (open_loop_lag first ∷ open_loop_lag second ∷ in_order (subframe_number s.next) n ∷ []) s (accepted s exc target hs first second)
+unfolding Pitch_fr
 past s exc target hs first second n e t h l m = rw (eq-eqb _ 194 e, eq-eqb _ 40 t, eq-eqb _ 40 h, le-leb 1 n l, le-leb n 4 m)
 
 pub returns-then-excitation-ne-EXCITATION_SAMPLES : goal.returns-then-excitation-ne-EXCITATION_SAMPLES
-unfolding Pitch-fr
+unfolding Pitch_fr
 returns-then-excitation-ne-EXCITATION_SAMPLES c = rw (ne_eqb _ 194 c.if-excitation-ne-EXCITATION_SAMPLES.true) c.refused.ensures
 
 pub returns-then-target-ne-SUBFRAME_SAMPLES : goal.returns-then-target-ne-SUBFRAME_SAMPLES
-unfolding Pitch-fr
+unfolding Pitch_fr
 returns-then-target-ne-SUBFRAME_SAMPLES c =
     rw (eq-eqb _ 194 c.if-excitation-ne-EXCITATION_SAMPLES.false, ne_eqb _ 40 c.if-target-ne-SUBFRAME_SAMPLES.true) c.refused-then-target-ne-SUBFRAME_SAMPLES.ensures
 
 pub returns-then-impulse_q12-ne-SUBFRAME_SAMPLES : goal.returns-then-impulse_q12-ne-SUBFRAME_SAMPLES
-unfolding Pitch-fr
+unfolding Pitch_fr
 returns-then-impulse_q12-ne-SUBFRAME_SAMPLES c =
     rw (
       eq-eqb _ 194 c.if-excitation-ne-EXCITATION_SAMPLES.false,
@@ -38,7 +38,7 @@ returns-then-impulse_q12-ne-SUBFRAME_SAMPLES c =
     c.refused-then-impulse_q12-ne-SUBFRAME_SAMPLES.ensures
 
 pub returns-then-subframe-lt1 : goal.returns-then-subframe-lt1
-unfolding Pitch-fr
+unfolding Pitch_fr
 returns-then-subframe-lt1 c =
     rw (
       eq-eqb _ 194 c.if-excitation-ne-EXCITATION_SAMPLES.false,
@@ -49,7 +49,7 @@ returns-then-subframe-lt1 c =
     c.refused-then-subframe-lt1.ensures
 
 pub returns-then-subframe-gt4 : goal.returns-then-subframe-gt4
-unfolding Pitch-fr
+unfolding Pitch_fr
 returns-then-subframe-gt4 c =
     let n = c.args.subframe in
     rw (
@@ -68,7 +68,7 @@ returns-in_default c =
     past a.self a.excitation.now a.target.now a.impulse_q12.now a.first a.second a.subframe c.if-excitation-ne-EXCITATION_SAMPLES.false c.if-target-ne-SUBFRAME_SAMPLES.false
     c.if-impulse_q12-ne-SUBFRAME_SAMPLES.false c.if-subframe-lt1.false c.if-subframe-gt4.false
     in
-    rw (h, lag-refused a.first c.try_new.ensures c.in_default.is) c.refused-in_default.ensures
+    rw (h, lag_refused a.first c.try_new.ensures c.in_default.is) c.refused-in_default.ensures
 
 pub returns-in_default-try_new : goal.returns-in_default-try_new
 returns-in_default-try_new c =
@@ -79,8 +79,8 @@ returns-in_default-try_new c =
     in
     rw (
       h,
-      (lag-taken a.first c.try_new.ensures c.in-Lag.is).0,
-      lag-refused a.second c.try_new-2.ensures c.in_default-try_new.is,
+      (lag_taken a.first c.try_new.ensures c.in-Lag.is).0,
+      lag_refused a.second c.try_new-2.ensures c.in_default-try_new.is,
     )
     c.refused-in_default-try_new.ensures
 
@@ -93,9 +93,9 @@ returns-then-subframe-number c =
     in
     rw (
       h,
-      (lag-taken a.first c.try_new.ensures c.in-Lag.is).0,
-      (lag-taken a.second c.try_new-2.ensures c.in-Lag-try_new.is).0,
-      ne_eqb a.subframe (subframe-number a.self.next) (λ e. c.if-subframe-number.true (e ∙ sym c.number.ensures)),
+      (lag_taken a.first c.try_new.ensures c.in-Lag.is).0,
+      (lag_taken a.second c.try_new-2.ensures c.in-Lag-try_new.is).0,
+      ne_eqb a.subframe (subframe_number a.self.next) (λ e. c.if-subframe-number.true (e ∙ sym c.number.ensures)),
       ← c.number-then-subframe-number.ensures,
     )
     c.refused-then-subframe-number.ensures
@@ -107,12 +107,12 @@ returns c =
     past a.self a.excitation.now a.target.now a.impulse_q12.now a.first a.second a.subframe c.if-excitation-ne-EXCITATION_SAMPLES.false c.if-target-ne-SUBFRAME_SAMPLES.false
     c.if-impulse_q12-ne-SUBFRAME_SAMPLES.false c.if-subframe-lt1.false c.if-subframe-gt4.false
     in
-    let p = lag-taken a.first c.try_new.ensures c.in-Lag.is in
-    let q = lag-taken a.second c.try_new-2.ensures c.in-Lag-try_new.is in
+    let p = lag_taken a.first c.try_new.ensures c.in-Lag.is in
+    let q = lag_taken a.second c.try_new-2.ensures c.in-Lag-try_new.is in
     rw (
       h,
       p.0,
       q.0,
-      eq-eqb a.subframe (subframe-number a.self.next) (c.if-subframe-number.false ∙ c.number.ensures),
+      eq-eqb a.subframe (subframe_number a.self.next) (c.if-subframe-number.false ∙ c.number.ensures),
     )
     (rw (c.samples-2.ensures, c.samples.ensures, p.1, q.1) at c.accepted.ensures)
