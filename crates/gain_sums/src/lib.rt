@@ -62,7 +62,7 @@ fn are_quiet(left: &[i16; 40], right: &[i16; 40]) -> bool
     sums::peak(left) as u32 * sums::peak(right) as u32 <= 26843545
 }
 
-// Half the sum, doubled at the end: the compiler makes products of eight words at once of it.
+// Half the sum, doubled at the end: the compiler makes products of several words at once of it.
 fn plain(left: &[i16; 40], right: &[i16; 40]) -> i32
     requires { (k : ℕ) → k < 40 → nat_abs (at left.now k) * nat_abs (at right.now k) ≤ 26843545 }
     ensures { (result ≡ sum left.now right.now 40) × (overflow left.now right.now 40 ≡ false) }

@@ -59,7 +59,7 @@ fn plain_table(words: &[i16; 223]) -> [i32; 144]
     table
 }
 
-// Half the sum, doubled at the end: the compiler makes products of eight words at once of it.
+// Half the sum, doubled at the end: the compiler makes products of several words at once of it.
 fn plain_at(words: &[i16; 223], lag: usize) -> i32
     requires { (lag ≤ 143) × (lt_z (products words.now 0 0 223) (pos 2147483647) ≡ true) }
     ensures { result ≡ correlation words.now lag }

@@ -141,7 +141,7 @@ fn energy_and_sum(filtered: &[i16; 40], target: &[i16; 40], plain: bool) -> Ener
     sums::energy_and_sum40(filtered, target)
 }
 
-// Half of either sum, doubled at the end: the compiler makes products of eight words at once of it.
+// Half of either sum, doubled at the end: the compiler makes products of several words at once of it.
 fn plain_walk(filtered: &[i16; 40], target: &[i16; 40]) -> EnergyAndSum
     requires { (weighed (at filtered.now) (at filtered.now) 40 < 2 ^ 30) × (weighed (at filtered.now) (at target.now) 40 < 2 ^ 30) }
     ensures { (result.energy ≡ dot filtered.now filtered.now 40) × (result.sum ≡ dot filtered.now target.now 40) }

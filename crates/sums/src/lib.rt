@@ -152,7 +152,7 @@ fn reversed(impulse: &[i16; 40]) -> [i16; 80]
     list
 }
 
-// Half the sum, doubled at the end: the compiler makes products of eight words at once of it.
+// Half the sum, doubled at the end: the compiler makes products of several words at once of it.
 fn plain_sum(input: &[i16; 40], reversed: &[i16; 80], from: usize) -> i32
     requires { (from ≤ 40) × (weighed (at input.now) (λ k. at reversed.now (from + k)) 40 < 2 ^ 30) }
     ensures { result ≡ pos 2 *ℤ plain (at input.now) (λ k. at reversed.now (from + k)) 40 }
