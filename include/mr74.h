@@ -212,6 +212,19 @@ mr74_places_answer mr74_read_pulses(uint16_t positions, uint16_t signs, int16_t 
 
 /* ---- Gain row ---- */
 
+/*
+ * For a level meter. A count is of the terms, out of MR74_SUBFRAME, at which the doubled product or
+ * the running sum was clipped to 32 bits; a term where both were counts once. Above 0, the words of
+ * that sum are too loud for it:
+ *   energy_clips               the adaptive words
+ *   target_clips               the target and the adaptive words
+ *   innovation_clips           always 0: the pulses' eighths, by themselves, are never too loud
+ *   target_innovation_clips    the target and the filtered pulses
+ *   adaptive_innovation_clips  the adaptive words and the filtered pulses
+ * Where energy_clips or target_clips is above 0, the stage has repeated that sum with quarters of
+ * the adaptive words; the repetition is not counted.
+ */
+
 typedef struct {
     uint8_t number;
     uint64_t magnitude;
@@ -220,6 +233,8 @@ typedef struct {
     int16_t yy_exponent;
     int16_t xy;          /* their correlation with the target, and its exponent */
     int16_t xy_exponent;
+    uint8_t energy_clips; /* of the adaptive words by themselves .. */
+    uint8_t target_clips; /* .. and of the target by the adaptive words */
 } mr74_pitch_gain_answer;
 
 typedef struct {
@@ -230,6 +245,11 @@ typedef struct {
     int16_t pitch_q14;
     int16_t correction_q12;
     int16_t energy_q10;
+    uint8_t energy_clips;              /* as in the pitch gain .. */
+    uint8_t target_clips;
+    uint8_t innovation_clips;          /* .. of the filtered pulses' eighths by themselves .. */
+    uint8_t target_innovation_clips;   /* .. of the target by these eighths .. */
+    uint8_t adaptive_innovation_clips; /* .. and of the adaptive words by them */
 } mr74_gain_answer;
 
 /* Which rows may be chosen: all, or those with a pitch gain of at most 15565. */
@@ -332,8 +352,10 @@ MR74_LAYOUT(sizeof(mr74_pitch_answer) == 32 && offsetof(mr74_pitch_answer, next)
 MR74_LAYOUT(sizeof(mr74_sharpening_gain) == 2);
 MR74_LAYOUT(sizeof(mr74_pulses_answer) == 24);
 MR74_LAYOUT(sizeof(mr74_places_answer) == 48);
-MR74_LAYOUT(sizeof(mr74_pitch_gain_answer) == 32);
-MR74_LAYOUT(sizeof(mr74_gain_answer) == 24 && offsetof(mr74_gain_answer, negative) == 1);
+MR74_LAYOUT(sizeof(mr74_pitch_gain_answer) == 32 &&
+            offsetof(mr74_pitch_gain_answer, energy_clips) == 26);
+MR74_LAYOUT(sizeof(mr74_gain_answer) == 32 && offsetof(mr74_gain_answer, negative) == 1 &&
+            offsetof(mr74_gain_answer, energy_clips) == 24);
 MR74_LAYOUT(sizeof(mr74_logarithm) == 4);
 MR74_LAYOUT(sizeof(mr74_power_answer) == 24 && offsetof(mr74_power_answer, value) == 16);
 MR74_LAYOUT(sizeof(mr74_record_answer) == 40 && offsetof(mr74_record_answer, from) == 24);

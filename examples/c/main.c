@@ -1,6 +1,7 @@
 /*
  * The stages of one subframe, called from C, on silence and on a voiced sound, and both readers on
- * what they send. Prints a line for each answer.
+ * what they send; and a level meter of the gain row, on a sound that fits and on a loud one. Prints
+ * a line for each answer.
  */
 #include "mr74.h"
 
@@ -95,6 +96,30 @@ static void gain_row(const int16_t target[MR74_SUBFRAME], const int16_t adaptive
     printf("gain %u %d %d\n", row.index, row.pitch_q14, row.correction_q12);
 }
 
+/*
+ * A sound that grows over the subframe, and its level: too loud for the sums of the gain row where
+ * a term of one was clipped. Each number is out of MR74_SUBFRAME terms.
+ */
+static void rising(int step)
+{
+    int16_t target[MR74_SUBFRAME], adaptive[MR74_SUBFRAME];
+    for (int i = 0; i < MR74_SUBFRAME; i++) {
+        adaptive[i] = (int16_t)(i % 2 == 0 ? step * i : -step * i);
+        target[i] = adaptive[i] / 2;
+    }
+    mr74_pitch_gain_answer gain =
+        mr74_pitch_gain(target, MR74_SUBFRAME, adaptive, MR74_SUBFRAME);
+    printf("pitch gain %d clips %u %u\n", gain.gain_q14, gain.energy_clips, gain.target_clips);
+    mr74_gain_answer row =
+        mr74_quantize(target, MR74_SUBFRAME, adaptive, MR74_SUBFRAME, adaptive, MR74_SUBFRAME, 0,
+                      0, MR74_UNRESTRICTED);
+    bool loud = row.energy_clips > 0 || row.target_clips > 0 || row.innovation_clips > 0 ||
+                row.target_innovation_clips > 0 || row.adaptive_innovation_clips > 0;
+    printf("level %s %u %u %u %u %u\n", loud ? "loud" : "fits", row.energy_clips,
+           row.target_clips, row.innovation_clips, row.target_innovation_clips,
+           row.adaptive_innovation_clips);
+}
+
 static void silence(void)
 {
     const int16_t zeros[MR74_EXCITATION] = {0};
@@ -176,5 +201,7 @@ int main(void)
 {
     silence();
     voiced();
+    rising(200);
+    rising(800);
     return 0;
 }

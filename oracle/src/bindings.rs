@@ -1,6 +1,9 @@
 //! The Rust bindings beside the published Rust, by the names and shapes that both have. A value of
 //! one and its namesake of the other are compared as they are shown, so that the names of types and
-//! fields count too.
+//! fields count too. A pitch gain and a row have counts that the published ones have not, and are
+//! compared by their parts.
+
+mod parts;
 
 use crate::{
     adopted,
@@ -8,7 +11,6 @@ use crate::{
     chains::Chain,
     codec::mr74::{
         codebook::Codebook,
-        gain::TABLE,
         logarithm,
         pitch::{self, PitchLag},
     },
@@ -84,11 +86,11 @@ fn lists() -> [Function; 6] {
         function!("codebook::search", calls(), |index| told(pulse_search(&pulse_call(index))), {
             "codebook/search.rs" => told(Ok::<_, Refusal>(pulse_call(index).search())),
         }),
-        function!("pitch_gain", calls(), |index| told(pitch_gain(&gains(index))), {
-            "gain/quantization.rs" => told(gains(index).pitch_gain()),
+        function!("pitch_gain", calls(), |index| parts::of_gain(&gains(index)), {
+            "gain/quantization.rs" => parts::of_published_gain(&gains(index)),
         }),
-        function!("quantize", calls(), |index| told(quantize(&gains(index))), {
-            "gain/quantization.rs" => told(published_row(&gains(index))),
+        function!("quantize", calls(), |index| parts::of_row(&gains(index)), {
+            "gain/quantization.rs" => Ok(parts::of_published_row(&gains(index))),
         }),
     ]
 }
@@ -248,17 +250,6 @@ fn read_pulses(positions: u16, signs: u16) -> Result<Codebook, Refusal> {
 
 fn published_convolve([input, impulse]: &[[i16; SUBFRAME]; 2]) -> [i16; SUBFRAME] {
     pitch::search::convolve(input, impulse)
-}
-
-fn published_row(call: &gain::Call) -> Result<QuantizedRow, Refusal> {
-    let index = call.quantize();
-    let [pitch_q14, correction_q12, energy_q10] = TABLE[usize::from(index)];
-    Ok(QuantizedRow {
-        index,
-        pitch_q14,
-        correction_q12,
-        energy_q10,
-    })
 }
 
 fn lag(samples: u16) -> Result<u16, mr74::Refusal> {

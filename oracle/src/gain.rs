@@ -2,6 +2,8 @@
 
 mod calls;
 mod cases;
+mod clip_cases;
+mod clips;
 mod correlations;
 mod limits;
 mod pitch_cases;
@@ -15,6 +17,7 @@ mod ties;
 mod wished;
 
 pub use calls::{Call, SignedRefusal, recorded};
+pub use clips::{PITCH_SUMS, SUMS};
 pub use sources::{Drawn, loud_call, speech_call};
 
 use crate::{
@@ -22,8 +25,10 @@ use crate::{
     feed,
 };
 
-/// The calls that each function is compared on and that are accepted.
+/// The calls that each function is compared on and that are accepted, and those behind them that are
+/// made for a number of clipped terms.
 const ACCEPTED: u64 = 1_200_000;
+const CLIPPED: u64 = 100_000;
 
 pub fn functions() -> [Function; 4] {
     [
@@ -60,9 +65,12 @@ trait Compared: Send {
 fn compare<T: Compared>() -> Vec<Line> {
     let feed = feed::steps("gain records", calls::call, |_| true);
     let mut tally = T::new();
-    let parts = in_threads(ACCEPTED, T::new, |tally, indexes| {
+    let parts = in_threads(ACCEPTED + CLIPPED, T::new, |tally, indexes| {
         for index in indexes {
-            tally.compare_call(&Drawn::at(index, &feed));
+            tally.compare_call(&match index {
+                ..ACCEPTED => Drawn::at(index, &feed),
+                _ => Drawn::of_clips(index),
+            });
         }
     });
     for part in parts {

@@ -1,5 +1,6 @@
 //! The stages of one subframe, on silence and on a voiced sound, and both readers on what they
-//! send: the same lines as examples/c/main.c prints.
+//! send; and a level meter of the gain row, on a sound that fits and on a loud one: the same lines
+//! as examples/c/main.c prints.
 
 use mr74::{
     Refusal, SUBFRAME_SAMPLES,
@@ -9,7 +10,7 @@ use mr74::{
     },
     encoder_filtering::{COEFFICIENTS, INPUT_SAMPLES, LPC_ORDER, prepare, residual},
     entries,
-    gain::quantization::{GainLimit, Prediction, pitch_gain, quantize},
+    gain::quantization::{GainLimit, PitchClips, Prediction, pitch_gain, quantize},
     logarithm::{log2, pow2},
     pitch::{
         LagReader, PitchLag,
@@ -177,7 +178,41 @@ fn voiced() -> Result<(), Refusal> {
     Ok(())
 }
 
+/// A sound that grows over the subframe, and its level: too loud for the sums of the gain row where
+/// a term of one was clipped. Each number is out of 40 terms.
+fn rising(step: i16) -> Result<(), Refusal> {
+    let adaptive: Words = std::array::from_fn(|i| {
+        let word = step * i as i16;
+        if i % 2 == 0 { word } else { -word }
+    });
+    let target = adaptive.map(|word| word / 2);
+    let gain = pitch_gain(&target, &adaptive);
+    let PitchClips { energy, target: xy } = gain.clips();
+    println!("pitch gain {} clips {energy} {xy}", gain.gain_q14);
+    let prediction = Prediction {
+        exponent: 0,
+        fraction: 0,
+    };
+    let limit = GainLimit::Unrestricted;
+    let clips = quantize(&target, &adaptive, &adaptive, prediction, limit)?.clips();
+    let counts = [
+        clips.energy,
+        clips.target,
+        clips.innovation,
+        clips.target_innovation,
+        clips.adaptive_innovation,
+    ];
+    let level = if counts == [0; 5] { "fits" } else { "loud" };
+    println!(
+        "level {level} {}",
+        counts.map(|count| count.to_string()).join(" ")
+    );
+    Ok(())
+}
+
 fn main() -> Result<(), Refusal> {
     silence()?;
-    voiced()
+    voiced()?;
+    rising(200)?;
+    rising(800)
 }

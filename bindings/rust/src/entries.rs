@@ -52,6 +52,8 @@ answers! {
         yy_exponent: i16,
         xy: i16,
         xy_exponent: i16,
+        energy_clips: u8,
+        target_clips: u8,
     }
     GainAnswer {
         number: u8,
@@ -61,6 +63,11 @@ answers! {
         pitch_q14: i16,
         correction_q12: i16,
         energy_q10: i16,
+        energy_clips: u8,
+        target_clips: u8,
+        innovation_clips: u8,
+        target_innovation_clips: u8,
+        adaptive_innovation_clips: u8,
     }
     Logarithm { exponent: u8, fraction_q15: u16, }
     PowerAnswer { number: u8, negative: u8, magnitude: u64, value: i32, }

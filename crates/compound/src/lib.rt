@@ -53,13 +53,15 @@ pub fn product_high(a: i16, b: i16, n: u32) -> i16
     fixed::clip16((a as i32 * b as i32) >> (15 - fixed::at_most(n, 15)))
 }
 
+// Both without a branch: at which terms a loud walk clips can't be foreseen.
 pub fn mac_flagged(sum: i32, a: i16, b: i16) -> Flagged
     ensures { result ≡ L_mac_flagged sum a b }
 {
-    let wide = sum as i64 + fixed::product(a, b) as i64;
+    let doubled = fixed::product(a, b);
+    let past = sum.overflowing_add(doubled);
     Flagged {
-        value: fixed::clip32(wide),
-        overflow: (1073741823 < fixed::exact(a, b)) | ((2147483647 < wide) | (wide < -2147483648)),
+        value: fixed::add32(sum, doubled),
+        overflow: (1073741823 < fixed::exact(a, b)) | past.1,
     }
 }
 

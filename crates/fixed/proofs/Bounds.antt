@@ -5,10 +5,10 @@ use mathlib.Core.Bool.{Bool, true, false, cond}
 use Prim.Native.Nat.{ℕ, zero, suc, ◌+◌, ◌-◌, ◌*◌, ◌/◌, ◌^◌, ◌<◌, ◌≤◌}
 use native.Mathlib.Nat.{le_refl, lt_of_le_of_lt, mul-le-mul, div-le_self}
 use native.Mathlib.Omega.{arith}
-use lib.Dec.{T, ltb, ltb→lt, lit<}
+use lib.Dec.{T, ltb, ltb→lt, leb→le, lit<}
 use lib.IntN.{ℤ, pos, negsuc, neg_ℤ, nat_abs, sub_ℕ, ◌+ℤ◌, ◌-ℤ◌, ◌*ℤ◌}
 use lib.Pow.{shr_mono}
-use lib.Signed.{mag, shr_z, mag_shr, nat_abs-le}
+use lib.Signed.{mag, shr_z, mag_shr, nat_abs-le, ◌≤ℤ◌}
 use mir.Syntax.{Width, w16, w32, w64}
 use mir.Val.{SFits, hbits, to_z, of_z}
 use mir.Facts.{to_z-of_z, sfits_widen}
@@ -17,6 +17,11 @@ use borrow.Author.Rules.{sfits_of}
 pub mag_abs : (z : ℤ) → mag z ≤ nat_abs z
 mag_abs (pos n) = le_refl n
 mag_abs (negsuc n) = omega arith
+
+-- a word by its ends
+pub word_fits : (z : ℤ) → (negsuc 32767 ≤ℤ z) × (z ≤ℤ pos 32767) → mag z < 2 ^ 15
+word_fits (pos n) (l, h) = omega (arith, leb→le n 32767 h.le)
+word_fits (negsuc n) (l, h) = omega (arith, leb→le n 32767 l.le)
 
 -- what holds of both arms of a test holds of what it picks
 pub either : {A : Type 0} (P : A → Type 0) (c : Bool) (x y : A) → P x → P y → P (cond c x y)

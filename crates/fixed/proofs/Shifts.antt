@@ -12,7 +12,7 @@ use mir.Syntax.{w32, w64}
 use mir.Val.{SFits}
 use borrow.Author.Tests.{leb-true, leb-false}
 use Rattle.fixed.specs.Clip.{clip}
-use Rattle.fixed.specs.Operators.{shift_at}
+use Rattle.fixed.specs.Operators.{shl, shift_at}
 use Rattle.fixed.proofs.Bounds.{abs_mul, abs_fits, fits_abs}
 use Rattle.fixed.proofs.Clips.{clip_id, clip_wider}
 use Rattle.fixed.proofs.Signs.{neg_is, pos_is, neg_pos}
@@ -71,3 +71,9 @@ pub half_le : (v n : ℕ) → v / 2 ^ suc n ≤ v / 2
 half_le v n =
     let e : 2 ^ suc n ≡ 2 * 2 ^ n = omega arith in
     rw (e, ← (div-div-eq-div-mul v 2 (2 ^ n))) (div-le_self (v / 2) (2 ^ n))
+
+-- an eighth of a word
+pub eighth_le : (z : ℤ) → mag z < 2 ^ 15 → nat_abs (shl z (negsuc 2)) ≤ 4096
+unfolding shift_at
+eighth_le (pos n) h = omega arith
+eighth_le (negsuc n) h = omega arith

@@ -1,10 +1,15 @@
 -- Lists of numbers by the place, and the sums of TS 26.073's loops over them.
-use Rattle.std.specs.Prelude.{Bool, cond, ◌&&◌, List, [], ◌∷◌, ℕ, zero, suc, ◌+◌, ltb, leb, eqb, ℤ, pos, length, get_or}
+use Rattle.std.specs.Prelude.{Bool, cond, ◌&&◌, List, [], ◌∷◌, ℕ, zero, suc, ◌+◌, ltb, leb, eqb, ℤ, pos, negsuc, ◌≤ℤ◌, length, get_or}
 use Rattle.fixed.specs.Operators.{L_add, L_mult, shl}
 
 -- the number at place i
 abbrev pub at : List ℤ → ℕ → ℤ
 at xs i = get_or xs i (pos 0)
+
+-- 01: 'A *word* is 16-bit signed'. Every place of the list holds one (past its end `at` reads 0). A list that the code takes is `[i16]` and holds nothing
+-- else; a list of integers has no width, so a statement over such lists says it
+abbrev pub Words : List ℤ → Type 0
+Words xs = (k : ℕ) → (negsuc 32767 ≤ℤ at xs k) × (at xs k ≤ℤ pos 32767)
 
 -- f i, f (i + 1), ..: n of them
 unfoldable pub tabulate_from : {A : Type 0} → ℕ → (ℕ → A) → ℕ → List A

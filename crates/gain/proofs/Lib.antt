@@ -2,3 +2,4 @@
 pub mod Chosen
 pub mod Pairs
 pub mod Limits
+pub mod Counts

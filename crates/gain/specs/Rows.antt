@@ -6,6 +6,7 @@ use Rattle.refusal.specs.Refused.{Told, values, refused, turned_down}
 use Rattle.refusal.specs.Checks.{Check, checked, length_is, known_limit, predicted_exponent, power_fraction}
 use Rattle.logarithm.specs.Powers.{power}
 use Rattle.gain_table.specs.Rows.{row}
+use Rattle.gain_sums.specs.Sums.{clips}
 use Rattle.gain_pitch.specs.Gains.{G_pitch}
 use Rattle.gain_limit.specs.Limits.{gp_limit}
 use Rattle.gain_coefficients.specs.Energies.{coefficients}
@@ -19,15 +20,29 @@ use Rattle.gain.specs.declared.Quantized.TheVariants.{Row, Refused}
 unfoldable pub gcode0 : ℕ → ℤ
 gcode0 fraction = extract_l (pos (power 14 fraction))
 
--- the weights of a stage's inputs: the innovation is shifted down by 3 first
-unfoldable pub weights : List ℤ → List ℤ → List ℤ → ℤ → List ℤ
-weights xs ys zs exponent = coefficients xs ys (shifted zs (negsuc 2) 40) (G_pitch xs ys) (sub exponent (pos 11))
+-- the innovation is shifted down by 3 first
+abbrev pub eighths : List ℤ → List ℤ
+eighths zs = shifted zs (negsuc 2) 40
 
-abbrev pub chosen : ℕ → QuantizedGain
-chosen i = record { index = i; row = row i }
+-- the weights of a stage's inputs
+unfoldable pub weights : List ℤ → List ℤ → List ℤ → ℤ → List ℤ
+weights xs ys zs exponent = coefficients xs ys (eighths zs) (G_pitch xs ys) (sub exponent (pos 11))
+
+-- row i, and 02, request 09: the counts of the five sums
+abbrev pub chosen : List ℤ → List ℤ → List ℤ → ℕ → QuantizedGain
+chosen xs ys zs i =
+    record {
+      index = i;
+      row = row i;
+      energy_clips = clips ys ys 40;
+      target_clips = clips xs ys 40;
+      innovation_clips = clips (eighths zs) (eighths zs) 40;
+      target_innovation_clips = clips xs (eighths zs) 40;
+      adaptive_innovation_clips = clips ys (eighths zs) 40;
+    }
 
 unfoldable pub Qua_gain : List ℤ → List ℤ → List ℤ → ℤ → ℕ → ℤ → QuantizedGain
-Qua_gain xs ys zs exponent fraction limit = chosen (nearest_row (weights xs ys zs exponent) (gcode0 fraction) limit)
+Qua_gain xs ys zs exponent fraction limit = chosen xs ys zs (nearest_row (weights xs ys zs exponent) (gcode0 fraction) limit)
 
 -- ---- the entry
 -- an answer as 01 gives it

@@ -1,10 +1,11 @@
--- 02, request 14: the resonance limit beside none, for the same lists and the same predicted pair.
-use Rattle.std.specs.Prelude.{◌≡◌, List, ℕ, ◌≤◌, ℤ, pos, negsuc, replicate, ◌≤ℤ◌}
+-- 02, request 14: the resonance limit beside none, for the same lists and the same predicted pair. And request 09: a sum that is never clipped.
+use Rattle.std.specs.Prelude.{◌≡◌, List, [], ◌∷◌, ℕ, ◌≤◌, ℤ, pos, negsuc, replicate, ◌≤ℤ◌}
+use Rattle.fixed.specs.Lists.{Words}
 use Rattle.refusal.specs.Refused.{values}
 use Rattle.gain_limit.specs.Limits.{gp_limit}
 use Rattle.gain_choice.specs.Rows.{row_distance}
 use Rattle.gain.specs.declared.QuantizedGain.{QuantizedGain}
-use Rattle.gain.specs.Rows.{gcode0, weights, Qua_gain, quantize}
+use Rattle.gain.specs.Rows.{gcode0, weights, chosen, Qua_gain, quantize}
 
 -- of the distances of a stage's rows: `free` is the row chosen unrestricted and `held` the one under the resonance limit, each of least distance within
 -- its limit (`chosen_row`)
@@ -37,6 +38,11 @@ LimitsOfTheEntry =
     (xs ys zs : List ℤ) (exponent : ℤ) (fraction : ℕ) (q : QuantizedGain) →
     quantize xs ys zs exponent fraction 0 ≡ values q → AnsweredToo xs ys zs exponent fraction q
 
+-- ---- 02, request 09: the count of the innovation's energy is 0 whatever the words, since an eighth of one is within 4096
+unfoldable pub InnovationNeverClips : Type 0
+InnovationNeverClips =
+    (xs ys zs : List ℤ) (exponent : ℤ) (fraction : ℕ) (limit : ℤ) → Words zs → (Qua_gain xs ys zs exponent fraction limit).innovation_clips ≡ 0
+
 -- ---- computed
 -- the row of lists that hold one word each, with the fraction 0
 abbrev pub row_of : ℤ → ℤ → ℤ → ℤ → ℕ → ℕ
@@ -49,3 +55,13 @@ Examples =
     × (row_of (pos 5) (pos 2) (pos 10) (pos 8) 1 ≡ 95)
     × (row_of (pos 0) (pos 0) (pos 0) (negsuc 19) 0 ≡ 96)
     × (row_of (pos 0) (pos 0) (pos 0) (negsuc 19) 1 ≡ 84)
+
+-- where target, adaptive words and innovation are all -32768: every term of the first two sums, none of the innovation's energy, and of its products
+-- with the others the terms from the eighth on. Where they are all 1, no term
+abbrev pub counts_of : ℤ → List ℕ
+counts_of v =
+    let q = chosen (replicate 40 v) (replicate 40 v) (replicate 40 v) 0 in
+    q.energy_clips ∷ q.target_clips ∷ q.innovation_clips ∷ q.target_innovation_clips ∷ q.adaptive_innovation_clips ∷ []
+
+unfoldable pub ExamplesOfCounts : Type 0
+ExamplesOfCounts = (counts_of (negsuc 32767) ≡ 40 ∷ 40 ∷ 0 ∷ 33 ∷ 33 ∷ []) × (counts_of (pos 1) ≡ 0 ∷ 0 ∷ 0 ∷ 0 ∷ 0 ∷ [])

@@ -21,10 +21,17 @@ const MAX_EXPONENT: i16 = 127;
 
 const GCODE0_EXPONENT: u8 = 14;
 
+// The row, and at how many of its 40 terms each sum was clipped: the adaptive words' energy and their product with the target, before they are made anew with
+// quarters; then the innovation's energy and its products with the target and with the adaptive words.
 #[derive(Clone, Copy)]
 pub struct QuantizedGain {
     pub index: u16,
     pub row: GainRow,
+    pub energy_clips: u8,
+    pub target_clips: u8,
+    pub innovation_clips: u8,
+    pub target_innovation_clips: u8,
+    pub adaptive_innovation_clips: u8,
 }
 
 #[derive(Clone, Copy)]
@@ -101,15 +108,26 @@ fn qua_gain(
     gcode0: i16,
     limit_q14: i16,
 ) -> QuantizedGain
-    ensures { result ≡ chosen (nearest_row (weights target.now adaptive.now filtered.now exponent) gcode0 limit_q14) }
+    ensures { result ≡ chosen target.now adaptive.now filtered.now (nearest_row (weights target.now adaptive.now filtered.now exponent) gcode0 limit_q14) }
 {
     let gain = gain_pitch::g_pitch(target, adaptive);
     let innovation = sums::shifted40(filtered, -3);
     let code = fixed::sub16(exponent, CODE_EXPONENT_BIAS);
-    let weights = gain_coefficients::coefficients(target, adaptive, &innovation, gain, code);
-    let index = gain_choice::nearest_row(&weights, gcode0, limit_q14);
+    let weights = gain_coefficients::counted_coefficients(
+        target,
+        adaptive,
+        &innovation,
+        gain,
+        code,
+    );
+    let index = gain_choice::nearest_row(&weights.list, gcode0, limit_q14);
     QuantizedGain {
         index,
         row: gain_table::row(index),
+        energy_clips: gain.energy_clips,
+        target_clips: gain.target_clips,
+        innovation_clips: weights.innovation_clips,
+        target_innovation_clips: weights.target_innovation_clips,
+        adaptive_innovation_clips: weights.adaptive_innovation_clips,
     }
 }

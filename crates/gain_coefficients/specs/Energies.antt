@@ -4,8 +4,9 @@ use Rattle.std.specs.Prelude.{cond, List, [], ◌∷◌, map, ℤ, pos, negsuc}
 use Rattle.std.specs.Int.Signed.{lt_z}
 use Rattle.fixed.specs.Operators.{add, sub, negate, extract_h, L_deposit_h, L_shl, shl, norm_l}
 use Rattle.gain_pitch.specs.declared.PitchGain.{PitchGain}
-use Rattle.gain_sums.specs.Sums.{sum}
+use Rattle.gain_sums.specs.Sums.{sum, clips}
 use Rattle.gain_coefficients.specs.declared.Coefficient.{Coefficient}
+use Rattle.gain_coefficients.specs.declared.CountedCoefficients.{CountedCoefficients}
 
 -- ---- calc_filt_energies
 abbrev pub coefficient : ℤ → ℤ → Coefficient
@@ -63,3 +64,13 @@ on_one_scale (c ∷ cs) = map (levelled (add (e_max c.exponent cs) (pos 1))) (c 
 -- the five coefficients, for the innovation's eighths
 unfoldable pub coefficients : List ℤ → List ℤ → List ℤ → PitchGain → ℤ → List ℤ
 coefficients xs ys zs g code = on_one_scale (exp_max (calc_filt_energies xs ys zs g) (scales code))
+
+-- 02, request 09: with 'its three others', the counts of the three sums of the innovation
+unfoldable pub counted_coefficients : List ℤ → List ℤ → List ℤ → PitchGain → ℤ → CountedCoefficients
+counted_coefficients xs ys zs g code =
+    record {
+      list = coefficients xs ys zs g code;
+      innovation_clips = clips zs zs 40;
+      target_innovation_clips = clips xs zs 40;
+      adaptive_innovation_clips = clips ys zs 40;
+    }

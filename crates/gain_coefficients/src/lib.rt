@@ -3,31 +3,48 @@
 
 ghost use Rattle.std.specs.Prelude.{◌≡◌, cond, [], ◌∷◌};
 ghost use Rattle.std.specs.Int.Signed.{lt_z};
-ghost use Rattle.gain_sums.specs.Sums.{sum};
-ghost use Rattle.gain_coefficients.specs.Energies.{cut, negated, raised, yy_coefficient, xy_coefficient, levelled, on_one_scale, coefficients};
+ghost use Rattle.gain_coefficients.specs.Energies.{cut, negated, raised, yy_coefficient, xy_coefficient, levelled, on_one_scale, counted_coefficients};
 
 use gain_pitch::PitchGain;
 
+// The five coefficients, and how often the three sums of the innovation were clipped: its energy, and those with the target and with the adaptive words.
+#[derive(Clone, Copy)]
+pub struct CountedCoefficients {
+    pub list: [i32; 5],
+    pub innovation_clips: u8,
+    pub target_innovation_clips: u8,
+    pub adaptive_innovation_clips: u8,
+}
+
 // Of target, adaptive words and the innovation's eighths, all on one scale.
-pub fn coefficients(
+pub fn counted_coefficients(
     target: &[i16; 40],
     adaptive: &[i16; 40],
     innovation: &[i16; 40],
     gain: PitchGain,
     code: i16,
-) -> [i32; 5]
-    ensures { result ≡ coefficients target.now adaptive.now innovation.now gain code }
+) -> CountedCoefficients
+    ensures { result ≡ counted_coefficients target.now adaptive.now innovation.now gain code }
 {
-    let zz = energy(innovation, -3);
-    let xz = negated(product(target, innovation, 7));
-    let yz = product(adaptive, innovation, 7);
-    on_one_scale(
+    let zz = gain_sums::dot(innovation, innovation);
+    let xz = gain_sums::dot(target, innovation);
+    let yz = gain_sums::dot(adaptive, innovation);
+    let list = on_one_scale(
         raised(adaptive_energy(gain), -13),
         raised(adaptive_correlation(gain), -14),
-        raised(zz, fixed::add16(15, fixed::shift_word(code, 1))),
-        raised(xz, code),
-        raised(yz, fixed::add16(1, code)),
-    )
+        raised(
+            cut(zz.value, -3),
+            fixed::add16(15, fixed::shift_word(code, 1)),
+        ),
+        raised(negated(cut(xz.value, 7)), code),
+        raised(cut(yz.value, 7), fixed::add16(1, code)),
+    );
+    CountedCoefficients {
+        list,
+        innovation_clips: zz.clips,
+        target_innovation_clips: xz.clips,
+        adaptive_innovation_clips: yz.clips,
+    }
 }
 
 #[derive(Clone, Copy)]
@@ -45,18 +62,6 @@ fn cut(sum: i32, bias: i16) -> Coefficient
         fraction: fixed::high(fixed::shift(sum, places)),
         exponent: fixed::sub16(bias, places),
     }
-}
-
-fn energy(words: &[i16; 40], bias: i16) -> Coefficient
-    ensures { result ≡ cut (sum words.now words.now 40) bias }
-{
-    cut(gain_sums::square_sum(words).value, bias)
-}
-
-fn product(left: &[i16; 40], right: &[i16; 40], bias: i16) -> Coefficient
-    ensures { result ≡ cut (sum left.now right.now 40) bias }
-{
-    cut(gain_sums::dot_value(left, right), bias)
 }
 
 fn negated(c: Coefficient) -> Coefficient

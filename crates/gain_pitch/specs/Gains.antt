@@ -1,12 +1,12 @@
 -- TS 26.073 G_pitch: the gain of the pitch, and the normalised energy and correlation that it comes from.
-use Rattle.std.specs.Prelude.{cond, List, [], ◌∷◌, ℤ, pos, negsuc}
+use Rattle.std.specs.Prelude.{cond, List, [], ◌∷◌, ℕ, ℤ, pos, negsuc}
 use Rattle.std.specs.Int.Signed.{lt_z}
 use Rattle.fixed.specs.declared.Flagged.{Flagged}
 use Rattle.fixed.specs.Operators.{sub, round, L_shl, shl, norm_l, div_s}
 use Rattle.fixed.specs.Lists.{shifted}
 use Rattle.refusal.specs.Refused.{Told, values, refused, turned_down}
 use Rattle.refusal.specs.Checks.{checked, length_is}
-use Rattle.gain_sums.specs.Sums.{flagged_sum}
+use Rattle.gain_sums.specs.Sums.{flagged_sum, clips}
 use Rattle.gain_pitch.specs.declared.ScaledWord.{ScaledWord}
 use Rattle.gain_pitch.specs.declared.PitchGain.{PitchGain}
 use Rattle.gain_pitch.specs.declared.FoundGain.{FoundGain}
@@ -41,19 +41,22 @@ quotient xy yy = shl (div_s (shl xy.word (negsuc 0)) yy.word) (sub yy.exponent x
 unfoldable pub gain : ScaledWord → ScaledWord → ℤ
 gain xy yy = cond (lt_z xy.word (pos 4)) (pos 0) (cond (lt_z (pos 19661) (quotient xy yy)) (pos 19661) (quotient xy yy))
 
--- the gain and g_coeff[0] to g_coeff[3]
-unfoldable pub coefficients : ScaledWord → ScaledWord → PitchGain
-coefficients xy yy =
+-- the gain and g_coeff[0] to g_coeff[3], and the counts
+unfoldable pub coefficients : ScaledWord → ScaledWord → ℕ → ℕ → PitchGain
+coefficients xy yy energy_clips target_clips =
     record {
       gain_q14 = gain xy yy;
       yy = yy.word;
       yy_exponent = sub (pos 15) yy.exponent;
       xy = xy.word;
       xy_exponent = sub (pos 15) xy.exponent;
+      energy_clips = energy_clips;
+      target_clips = target_clips;
     }
 
+-- 02, request 09: 'the counts of its first energy sum and first target sum', not of a sum that is made anew with quarters
 unfoldable pub G_pitch : List ℤ → List ℤ → PitchGain
-G_pitch xs ys = coefficients (correlation xs ys) (energy ys)
+G_pitch xs ys = coefficients (correlation xs ys) (energy ys) (clips ys ys 40) (clips xs ys 40)
 
 -- ---- the entry
 -- an answer as 01 gives it

@@ -2,8 +2,10 @@
 #![tactic(auto)]
 
 ghost use Rattle.std.specs.Prelude.{◌≡◌};
+ghost use Rattle.gain_sums.specs.Sums.{counted_sum};
 ghost use Rattle.gain_pitch.specs.Gains.{normalized, energy, correlation, gain, G_pitch, told_gain, pitch_gain};
 
+use gain_sums::Counted;
 use refusal::Refusal;
 
 const SUBFRAME_SAMPLES: usize = 40;
@@ -14,7 +16,7 @@ const MIN_POSITIVE_CORRELATION: i16 = 4;
 
 const CORRELATION_EXPONENT: i16 = 15;
 
-// The standard's g_coeff beside the gain: each number is a word by two to its exponent.
+// The standard's g_coeff beside the gain: each number is a word by two to its exponent. The counts are those of the first energy sum and the first target sum.
 #[derive(Clone, Copy)]
 pub struct PitchGain {
     pub gain_q14: i16,
@@ -22,6 +24,8 @@ pub struct PitchGain {
     pub yy_exponent: i16,
     pub xy: i16,
     pub xy_exponent: i16,
+    pub energy_clips: u8,
+    pub target_clips: u8,
 }
 
 // What `pitch_gain` answers.
@@ -46,14 +50,18 @@ pub fn pitch_gain(target: &[i16], adaptive: &[i16]) -> FoundGain
 pub fn g_pitch(target: &[i16; 40], adaptive: &[i16; 40]) -> PitchGain
     ensures { result ≡ G_pitch target.now adaptive.now }
 {
-    let yy = energy(adaptive);
-    let xy = correlation(target, adaptive);
+    let first_energy = gain_sums::square_sum(adaptive);
+    let first_product = gain_sums::dot(target, adaptive);
+    let yy = energy(adaptive, first_energy);
+    let xy = correlation(target, adaptive, first_product);
     PitchGain {
         gain_q14: gain(xy, yy),
         yy: yy.word,
         yy_exponent: fixed::sub16(CORRELATION_EXPONENT, yy.exponent),
         xy: xy.word,
         xy_exponent: fixed::sub16(CORRELATION_EXPONENT, xy.exponent),
+        energy_clips: first_energy.clips,
+        target_clips: first_product.clips,
     }
 }
 
@@ -80,30 +88,27 @@ fn gain(xy: ScaledWord, yy: ScaledWord) -> i16
 
 // ---- A sum that overflowed is made anew with a quarter of the adaptive words, and its exponent lowered.
 
-fn energy(adaptive: &[i16; 40]) -> ScaledWord
+fn energy(adaptive: &[i16; 40], first: Counted) -> ScaledWord
+    requires { first ≡ counted_sum adaptive.now adaptive.now 40 }
     ensures { result ≡ energy adaptive.now }
 {
-    let sum = gain_sums::square_sum(adaptive);
-    if sum.overflow {
-        return normalized(
-            gain_sums::square_sum(&sums::shifted40(adaptive, -2)).value,
-            4,
-        );
+    if 0 < first.clips {
+        return normalized(gain_sums::square_value(&sums::shifted40(adaptive, -2)), 4);
     }
-    normalized(sum.value, 0)
+    normalized(first.value, 0)
 }
 
-fn correlation(target: &[i16; 40], adaptive: &[i16; 40]) -> ScaledWord
+fn correlation(target: &[i16; 40], adaptive: &[i16; 40], first: Counted) -> ScaledWord
+    requires { first ≡ counted_sum target.now adaptive.now 40 }
     ensures { result ≡ correlation target.now adaptive.now }
 {
-    let sum = gain_sums::dot(target, adaptive);
-    if sum.overflow {
+    if 0 < first.clips {
         return normalized(
             gain_sums::clipped(target, &sums::shifted40(adaptive, -2)).value,
             2,
         );
     }
-    normalized(sum.value, 0)
+    normalized(first.value, 0)
 }
 
 fn normalized(sum: i32, lowered: i16) -> ScaledWord

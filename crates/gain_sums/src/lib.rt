@@ -1,56 +1,95 @@
-// The sums of the gain row, TS 26.073 G_pitch and calc_filt_energies, from gain/quantization.rs: 40 doubled products from 1 on, clipped one by one, and whether a step
-// was clipped.
+// The sums of the gain row, TS 26.073 G_pitch and calc_filt_energies, from gain/quantization.rs: 40 doubled products from 1 on, clipped one by one, and at how many
+// of them something was clipped.
 #![tactic(auto)]
 
-ghost use Rattle.std.specs.Prelude.{true, false, ◌≡◌, ℕ, ◌*◌, ◌<◌, ◌≤◌, nat_abs};
+ghost use Rattle.std.specs.Prelude.{true, ◌≡◌, ℕ, suc, ◌*◌, ◌^◌, ◌<◌, ◌≤◌, nat_abs};
 ghost use Rattle.fixed.specs.Lists.{at};
-ghost use Rattle.gain_sums.specs.Sums.{sum, overflow, flagged_sum};
+ghost use Rattle.sums.specs.Plain.{squared};
+ghost use Rattle.gain_sums.specs.Sums.{sum, clips, counted_sum};
 
-// Of a list with itself: no term is negative, so one test of the whole tells.
-pub fn square_sum(words: &[i16; 40]) -> fixed::Flagged
-    ensures { result ≡ flagged_sum words.now words.now 40 }
+const GREATEST: i32 = 2147483647;
+
+// Twice this is past the end, and twice the number below is not.
+const LEAST_CLIPPED: u32 = 1073741824;
+
+// A sum, and the number of its terms at which the doubled product or the running sum was clipped.
+#[derive(Clone, Copy)]
+pub struct Counted {
+    pub value: i32,
+    pub clips: u8,
+}
+
+// Of a list with itself: no term is negative, so the whole tells whether one is clipped.
+pub fn square_sum(words: &[i16; 40]) -> Counted
+    ensures { result ≡ counted_sum words.now words.now 40 }
 {
-    let energy = sums::energy40(words);
-    fixed::Flagged {
-        value: fixed::add32(energy, 1),
-        overflow: 2147483646 < energy,
+    let value = square_value(words);
+    if value < GREATEST {
+        return Counted { value, clips: 0 };
+    }
+    Counted {
+        value,
+        clips: clipped_squares(words),
     }
 }
 
-pub fn dot(left: &[i16; 40], right: &[i16; 40]) -> fixed::Flagged
-    ensures { result ≡ flagged_sum left.now right.now 40 }
+// Its value alone.
+pub fn square_value(words: &[i16; 40]) -> i32
+    ensures { result ≡ sum words.now words.now 40 }
+{
+    fixed::add32(sums::energy40(words), 1)
+}
+
+// Its clipped terms: the first at which the squares are past half the end, and what follows.
+fn clipped_squares(words: &[i16; 40]) -> u8
+    ensures { result ≡ clips words.now words.now 40 }
+{
+    let mut squares: u32 = 0;
+    for i in 0..40 {
+        squares = squares + sums::square(words[i]);
+        if LEAST_CLIPPED <= squares {
+            return clipped_from(words, i);
+        }
+    }
+    0
+}
+
+// From the first clipped term on the sum stays at the end, so that every term that is not 0 is clipped.
+fn clipped_from(words: &[i16; 40], first: usize) -> u8
+    requires { (first < 40) × (2 ^ 30 ≤ squared (at words.now) (suc first)) × (clips words.now words.now first ≡ 0) }
+    ensures { result ≡ clips words.now words.now 40 }
+{
+    let mut clips: u8 = 0;
+    for i in first..40 {
+        clips = clips + (words[i] != 0) as u8;
+    }
+    clips
+}
+
+pub fn dot(left: &[i16; 40], right: &[i16; 40]) -> Counted
+    ensures { result ≡ counted_sum left.now right.now 40 }
 {
     if are_quiet(left, right) {
-        return fixed::Flagged {
+        return Counted {
             value: plain(left, right),
-            overflow: false,
+            clips: 0,
         };
     }
     clipped(left, right)
 }
 
-// Its value alone.
-pub fn dot_value(left: &[i16; 40], right: &[i16; 40]) -> i32
-    ensures { result ≡ sum left.now right.now 40 }
-{
-    if are_quiet(left, right) {
-        return plain(left, right);
-    }
-    clipped(left, right).value
-}
-
-// Both without a look whether a step can be clipped.
-pub fn clipped(left: &[i16; 40], right: &[i16; 40]) -> fixed::Flagged
-    ensures { result ≡ flagged_sum left.now right.now 40 }
+// The same without a look whether a step can be clipped.
+pub fn clipped(left: &[i16; 40], right: &[i16; 40]) -> Counted
+    ensures { result ≡ counted_sum left.now right.now 40 }
 {
     let mut value: i32 = 1;
-    let mut overflow = false;
+    let mut clips: u8 = 0;
     for i in 0..40 {
         let step = compound::mac_flagged(value, left[i], right[i]);
         value = step.value;
-        overflow = overflow | step.overflow;
+        clips = clips + step.overflow as u8;
     }
-    fixed::Flagged { value, overflow }
+    Counted { value, clips }
 }
 
 // ---- The same where no product is so great that a step could be clipped: at most a fortieth of 2 ^ 30.
@@ -65,7 +104,7 @@ fn are_quiet(left: &[i16; 40], right: &[i16; 40]) -> bool
 // Half the sum, doubled at the end: the compiler makes products of several words at once of it.
 fn plain(left: &[i16; 40], right: &[i16; 40]) -> i32
     requires { (k : ℕ) → k < 40 → nat_abs (at left.now k) * nat_abs (at right.now k) ≤ 26843545 }
-    ensures { (result ≡ sum left.now right.now 40) × (overflow left.now right.now 40 ≡ false) }
+    ensures { (result ≡ sum left.now right.now 40) × (clips left.now right.now 40 ≡ 0) }
 {
     let mut half: i32 = 0;
     for i in 0..40 {

@@ -6,7 +6,7 @@ use Rattle.gain.specs.declared.QuantizedGain.{QuantizedGain}
 use Rattle.mr74.specs.declared.gain_row.PitchGainAnswer.{PitchGainAnswer}
 use Rattle.mr74.specs.declared.gain_row.GainAnswer.{GainAnswer}
 
--- number 0 and the five numbers, or a refusal's number and detail and zeros
+-- number 0, the five numbers and the two counts, or a refusal's number and detail and zeros
 abbrev pub pitch_gain_answer : Told PitchGain → PitchGainAnswer
 pitch_gain_answer (values g) =
     record {
@@ -17,6 +17,8 @@ pitch_gain_answer (values g) =
       yy_exponent = g.yy_exponent;
       xy = g.xy;
       xy_exponent = g.xy_exponent;
+      energy_clips = g.energy_clips;
+      target_clips = g.target_clips;
     }
 pitch_gain_answer (refused n d) =
     record {
@@ -27,9 +29,11 @@ pitch_gain_answer (refused n d) =
       yy_exponent = pos 0;
       xy = pos 0;
       xy_exponent = pos 0;
+      energy_clips = 0;
+      target_clips = 0;
     }
 
--- and the index with its row
+-- and the index with its row and the five counts
 abbrev pub gain_answer : Told QuantizedGain → GainAnswer
 gain_answer (values q) =
     record {
@@ -40,6 +44,11 @@ gain_answer (values q) =
       pitch_q14 = q.row.pitch_q14;
       correction_q12 = q.row.correction_q12;
       energy_q10 = q.row.energy_q10;
+      energy_clips = q.energy_clips;
+      target_clips = q.target_clips;
+      innovation_clips = q.innovation_clips;
+      target_innovation_clips = q.target_innovation_clips;
+      adaptive_innovation_clips = q.adaptive_innovation_clips;
     }
 gain_answer (refused n d) =
     record {
@@ -50,4 +59,9 @@ gain_answer (refused n d) =
       pitch_q14 = pos 0;
       correction_q12 = pos 0;
       energy_q10 = pos 0;
+      energy_clips = 0;
+      target_clips = 0;
+      innovation_clips = 0;
+      target_innovation_clips = 0;
+      adaptive_innovation_clips = 0;
     }

@@ -17,6 +17,8 @@ pub struct PitchGainAnswer {
     pub yy_exponent: i16,
     pub xy: i16,
     pub xy_exponent: i16,
+    pub energy_clips: u8,
+    pub target_clips: u8,
 }
 
 #[unsafe(no_mangle)]
@@ -39,6 +41,8 @@ fn pitch_gain_answer(answer: FoundGain) -> PitchGainAnswer
             yy_exponent: gain.yy_exponent,
             xy: gain.xy,
             xy_exponent: gain.xy_exponent,
+            energy_clips: gain.energy_clips,
+            target_clips: gain.target_clips,
         },
         FoundGain::Refused(refusal) => {
             let detail = refusal.detail();
@@ -50,6 +54,8 @@ fn pitch_gain_answer(answer: FoundGain) -> PitchGainAnswer
                 yy_exponent: 0,
                 xy: 0,
                 xy_exponent: 0,
+                energy_clips: 0,
+                target_clips: 0,
             }
         }
     }
@@ -65,6 +71,11 @@ pub struct GainAnswer {
     pub pitch_q14: i16,
     pub correction_q12: i16,
     pub energy_q10: i16,
+    pub energy_clips: u8,
+    pub target_clips: u8,
+    pub innovation_clips: u8,
+    pub target_innovation_clips: u8,
+    pub adaptive_innovation_clips: u8,
 }
 
 #[unsafe(no_mangle)]
@@ -103,6 +114,11 @@ fn gain_answer(answer: Quantized) -> GainAnswer
                 pitch_q14: row.pitch_q14,
                 correction_q12: row.correction_q12,
                 energy_q10: row.energy_q10,
+                energy_clips: chosen.energy_clips,
+                target_clips: chosen.target_clips,
+                innovation_clips: chosen.innovation_clips,
+                target_innovation_clips: chosen.target_innovation_clips,
+                adaptive_innovation_clips: chosen.adaptive_innovation_clips,
             }
         }
         Quantized::Refused(refusal) => {
@@ -115,6 +131,11 @@ fn gain_answer(answer: Quantized) -> GainAnswer
                 pitch_q14: 0,
                 correction_q12: 0,
                 energy_q10: 0,
+                energy_clips: 0,
+                target_clips: 0,
+                innovation_clips: 0,
+                target_innovation_clips: 0,
+                adaptive_innovation_clips: 0,
             }
         }
     }

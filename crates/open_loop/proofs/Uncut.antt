@@ -4,11 +4,11 @@ use mathlib.Core.Bool.{Bool, true, false}
 use mathlib.Core.List.{List}
 use Prim.Native.Nat.{ℕ, suc, ◌-◌, ◌*◌, ◌^◌, ◌<◌, ◌≤◌}
 use native.Mathlib.Omega.{arith}
-use lib.Dec.{ltb, leb→le, le→leb}
+use lib.Dec.{ltb, le→leb}
 use lib.IntN.{ℤ, pos, negsuc, nat_abs}
 use lib.Signed.{mag, ◌≤ℤ◌}
-use Rattle.fixed.specs.Lists.{at}
-use Rattle.fixed.proofs.Bounds.{mag_abs}
+use Rattle.fixed.specs.Lists.{at, Words}
+use Rattle.fixed.proofs.Bounds.{mag_abs, word_fits}
 use Rattle.fixed.proofs.Lists.{at_tabulate}
 use Rattle.fixed.proofs.Signs.{low_id}
 use Rattle.sums.specs.Plain.{squared}
@@ -18,13 +18,9 @@ use Rattle.open_loop_sections.specs.Sections.{scaled_all, long_at, value_at}
 use Rattle.open_loop_sections.proofs.Cuts.{long_le, new_le}
 use Rattle.open_loop.specs.Detectors.{joined_at, joined}
 use Rattle.open_loop.specs.Opens.{open_loop_opens}
-use Rattle.open_loop.specs.Statement.{Words, CutChangesNothing, behind, Examples}
+use Rattle.open_loop.specs.Statement.{CutChangesNothing, behind, Examples}
 
--- ---- a word by its ends and by its magnitude
-word : (z : ℤ) → (negsuc 32767 ≤ℤ z) × (z ≤ℤ pos 32767) → mag z < 2 ^ 15
-word (pos n) (l, h) = omega (arith, leb→le n 32767 h.le)
-word (negsuc n) (l, h) = omega (arith, leb→le n 32767 l.le)
-
+-- ---- a number by its magnitude
 at_least : (n : ℕ) (z : ℤ) → nat_abs z ≤ suc n → negsuc n ≤ℤ z
 at_least n (pos m) h = record { le = tt }
 at_least n (negsuc m) h = record { le = le→leb m n (omega arith) }
@@ -39,8 +35,8 @@ unfolding joined
 joined_words old new o n k h = rw (at_tabulate (joined_at old new) (pos 0) 223 k h) (go (ltb k 143) refl)
   where
     go : (t : Bool) → ltb k 143 ≡ t → mag (joined_at old new k) < 2 ^ 15
-    go true q = rw q (word (at old k) (o k))
-    go false q = rw q (word (at new (k - 143)) (n (k - 143)))
+    go true q = rw q (word_fits (at old k) (o k))
+    go false q = rw q (word_fits (at new (k - 143)) (n (k - 143)))
 
 -- ---- where the new words' squares are at most 80 * 2 ^ 24, for any ends that are 27655 or farther from 0
 uncut : (low high : ℕ) (xs : List ℤ) (lag : ℕ) → squared (from xs 143) 80 ≤ 80 * 2 ^ 24 → 27655 ≤ suc low → 27655 ≤ high →

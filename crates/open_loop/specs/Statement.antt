@@ -1,15 +1,10 @@
 -- 02, request 14: the cut to 16 bits changes nothing. One statement, on every history and half frame.
 use Rattle.std.specs.Prelude.{◌≡◌, List, ℕ, ℤ, pos, negsuc, replicate, ◌≤ℤ◌}
-use Rattle.fixed.specs.Lists.{at}
+use Rattle.fixed.specs.Lists.{Words}
 use Rattle.open_loop_correlation.specs.Correlations.{correlation}
 use Rattle.open_loop_sections.specs.Sections.{scaled_all, long_at, value_at}
 use Rattle.open_loop.specs.declared.Detector.{Detector}
 use Rattle.open_loop.specs.Detectors.{joined}
-
--- 01: 'A *word* is 16-bit signed'. Every place of the list holds one (past its end `at` reads 0). A list that the code takes is `[i16]` and holds nothing
--- else; a list of integers has no width, so the statement says it
-abbrev pub Words : List ℤ → Type 0
-Words xs = (k : ℕ) → (negsuc 32767 ≤ℤ at xs k) × (at xs k ≤ℤ pos 32767)
 
 -- 02: 'for every history and half frame the long before the cut already lies between −32768 and 32767, clipped sums included, so that cutting changes
 -- nothing'. The 223 words are scaled as 01 says, and correlation and energy are the clipped sums; it holds for every lag, so for the best of each section

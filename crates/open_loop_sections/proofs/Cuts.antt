@@ -6,7 +6,7 @@ use Prim.Native.Nat.{ℕ, ◌+◌, ◌-◌, ◌*◌, ◌^◌, ◌<◌, ◌≤◌
 use native.Mathlib.Nat.{mul-le-mul, mul-le-mul_right, le_trans}
 use native.Mathlib.Omega.{arith}
 use lib.Dec.{leb}
-use lib.IntN.{ℤ, pos, negsuc, nat_abs, ◌*ℤ◌}
+use lib.IntN.{ℤ, pos, nat_abs, ◌*ℤ◌}
 use lib.Signed.{mag, lt_z, le_z, nat_abs-le}
 use borrow.Author.Tests.{leb-true, leb-false, ltb-true}
 use Rattle.fixed.specs.Operators.{L_mult, shl, shift_at}
@@ -14,6 +14,7 @@ use Rattle.fixed.specs.Lists.{at}
 use Rattle.fixed.proofs.Bounds.{abs_mul}
 use Rattle.fixed.proofs.Clips.{abs_clip}
 use Rattle.fixed.proofs.Lists.{at_tabulate}
+use Rattle.fixed.proofs.Shifts.{eighth_le}
 use Rattle.fixed.proofs.Sums.{sum_fits}
 use Rattle.fixed.proofs.ByHalves.{product_le}
 use Rattle.sums.specs.Plain.{squared, weighed}
@@ -76,11 +77,6 @@ module _ (ys : List ℤ) (lag : ℕ) (new : squared (from ys 143) 80 ≤ 80 * 2 
       both false q r h = let e : min (2 * old) 2147483647 ≡ 2147483647 = omega (arith, leb-false (2 * old) 2147483647 q) in at_clip r (rw e at h)
 
 -- ---- scaled words are such
-eighth_le : (z : ℤ) → mag z < 2 ^ 15 → nat_abs (shl z (negsuc 2)) ≤ 4096
-unfolding shift_at
-eighth_le (pos n) h = omega arith
-eighth_le (negsuc n) h = omega arith
-
 raised_le : (z : ℤ) → nat_abs (shl z (pos 3)) ≤ 8 * nat_abs z
 unfolding shift_at
 raised_le z = omega (arith, abs_clip 15 (z *ℤ pos 8), abs_mul z (pos 8))

@@ -116,12 +116,28 @@ fn print_gain<W: Write>(output: &mut W, found: PitchGain) -> io::Result<()> {
         found.xy,
         found.xy_exponent,
     ];
-    records::print_words(output, &numbers)
+    records::print_words(output, &numbers)?;
+    print_counts(output, &[found.energy_clips, found.target_clips])
 }
 
 fn print_row<W: Write>(output: &mut W, quantized: QuantizedGain) -> io::Result<()> {
     output.write_all(b"gain")?;
     records::print_natural(output, quantized.index as u64)?;
     let row = quantized.row;
-    records::print_words(output, &[row.pitch_q14, row.correction_q12])
+    records::print_words(output, &[row.pitch_q14, row.correction_q12])?;
+    let counts = [
+        quantized.energy_clips,
+        quantized.target_clips,
+        quantized.innovation_clips,
+        quantized.target_innovation_clips,
+        quantized.adaptive_innovation_clips,
+    ];
+    print_counts(output, &counts)
+}
+
+fn print_counts<W: Write>(output: &mut W, counts: &[u8]) -> io::Result<()> {
+    for &count in counts {
+        records::print_natural(output, count as u64)?;
+    }
+    Ok(())
 }

@@ -38,7 +38,7 @@ pub fn held_energy(squares: u64) -> i32
     2147483647
 }
 
-fn square(v: i16) -> u32
+pub fn square(v: i16) -> u32
     ensures { (result ≡ nat_abs v * nat_abs v) × (result ≤ 2 ^ 30) }
 {
     fixed::exact(v, v) as u32

@@ -1,6 +1,7 @@
 //! Calls of the gain stage: the lists, the predicted pair and the limit of one call, and those of a
 //! feed.
 
+use super::clips::{self, PITCH_SUMS, SUMS, Terms};
 use crate::{
     codec::mr74::gain::{
         Prediction, TABLE,
@@ -52,6 +53,26 @@ impl Call {
 
     pub fn pitch_gain(&self) -> PitchGain {
         quantization::pitch_gain(&self.target, &self.adaptive)
+    }
+
+    /// The innovation as it is multiplied.
+    pub fn eighths(&self) -> [i16; SUBFRAME] {
+        self.filtered.map(|word| word >> 3)
+    }
+
+    /// How many terms of the energy sum and of the target sum are clipped.
+    pub fn pitch_clips(&self) -> [u8; PITCH_SUMS] {
+        clips::of_pitch_gain(&self.target, &self.adaptive)
+    }
+
+    /// Those of `pitch_clips`, then of the eighths by themselves, by the target and by the adaptive
+    /// words.
+    pub fn clips(&self) -> [u8; SUMS] {
+        let eighths = self.eighths();
+        let [energy, target] = self.pitch_clips();
+        let lists = [&eighths, &self.target, &self.adaptive];
+        let [innovation, product, cross] = lists.map(|list| Terms::of(list, &eighths).clips());
+        [energy, target, innovation, product, cross]
     }
 
     /// The same call with the other limit.
@@ -154,13 +175,14 @@ pub fn checked(
     Ok(limit)
 }
 
-/// An answer of the library, by the numbers of the gain or the refusal.
-pub fn pitch_answer(answer: Result<PitchGain, Refusal>) -> PitchGainAnswer {
-    let (refusal, gain_q14, correlations) = match answer {
-        Ok(gain) => (None, gain.gain_q14, gain.correlations),
-        Err(refusal) => (Some(refusal), 0, [0; 4]),
+/// An answer of the library, by the numbers and counts of the gain or the refusal.
+pub fn pitch_answer(answer: Result<(PitchGain, [u8; PITCH_SUMS]), Refusal>) -> PitchGainAnswer {
+    let (refusal, gain_q14, correlations, clips) = match answer {
+        Ok((gain, clips)) => (None, gain.gain_q14, gain.correlations, clips),
+        Err(refusal) => (Some(refusal), 0, [0; 4], [0; _]),
     };
     let [yy, yy_exponent, xy, xy_exponent] = correlations;
+    let [energy_clips, target_clips] = clips;
     PitchGainAnswer {
         number: refusal.map_or(0, |refusal| refusal.number),
         magnitude: refusal.map_or(0, |refusal| refusal.detail),
@@ -169,16 +191,19 @@ pub fn pitch_answer(answer: Result<PitchGain, Refusal>) -> PitchGainAnswer {
         yy_exponent,
         xy,
         xy_exponent,
+        energy_clips,
+        target_clips,
     }
 }
 
-/// An answer of the library, by the index of the row or the refusal.
-pub fn answer(answer: Result<u16, SignedRefusal>) -> GainAnswer {
-    let (refusal, index, row) = match answer {
-        Ok(index) => (None, index, TABLE[usize::from(index)]),
-        Err(refusal) => (Some(refusal), 0, [0; 3]),
+/// An answer of the library, by the index of the row and the counts or the refusal.
+pub fn answer(answer: Result<(u16, [u8; SUMS]), SignedRefusal>) -> GainAnswer {
+    let (refusal, index, row, clips) = match answer {
+        Ok((index, clips)) => (None, index, TABLE[usize::from(index)], clips),
+        Err(refusal) => (Some(refusal), 0, [0; 3], [0; _]),
     };
     let [pitch_q14, correction_q12, energy_q10] = row;
+    let [energy_clips, target_clips, innovation, product, cross] = clips;
     let detail = refusal.map_or(0, |refusal| refusal.detail);
     GainAnswer {
         number: refusal.map_or(0, |refusal| refusal.number),
@@ -188,6 +213,11 @@ pub fn answer(answer: Result<u16, SignedRefusal>) -> GainAnswer {
         pitch_q14,
         correction_q12,
         energy_q10,
+        energy_clips,
+        target_clips,
+        innovation_clips: innovation,
+        target_innovation_clips: product,
+        adaptive_innovation_clips: cross,
     }
 }
 

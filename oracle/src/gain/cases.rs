@@ -12,6 +12,7 @@
 
 use super::{
     calls::Call,
+    clip_cases,
     rows::{INNOVATION_SUMS, Inside, RESONANCE_ROWS, Rule},
 };
 use crate::{
@@ -75,6 +76,25 @@ cases! {
     RepeatedMatters => "row that not repeating the adaptive sums would change",
     OrderMatters => "row that summing the negative terms of a distance first would change",
     TieMatters => "row that taking the higher on a tie would change",
+    ProductOnce => "innovation by the target clipped at one term",
+    ProductOften => "innovation by the target clipped at 33 terms, the most that there are",
+    ProductZeroBehind => "term of 0 directly behind a clipped one of innovation by the target",
+    ProductBothEnds => "innovation by the target clipped at both ends",
+    ProductLast => "innovation by the target 2147483647, the last that is not clipped",
+    ProductUpperEnd => "innovation by the target 2147483647 by a term that is not clipped",
+    ProductLowerEnd => "innovation by the target -2147483648 by a term that is not clipped",
+    ProductAgainAbove => "innovation by the target clipped at the upper end, back below it, clipped there again",
+    ProductAgainBelow => "innovation by the target clipped at the lower end, back above it, clipped there again",
+    CrossOnce => "innovation by the adaptive words clipped at one term",
+    CrossOften => "innovation by the adaptive words clipped at 33 terms, the most that there are",
+    CrossZeroBehind => "term of 0 directly behind a clipped one of innovation by the adaptive words",
+    CrossBothEnds => "innovation by the adaptive words clipped at both ends",
+    CrossLast => "innovation by the adaptive words 2147483647, the last that is not clipped",
+    CrossUpperEnd => "innovation by the adaptive words 2147483647 by a term that is not clipped",
+    CrossLowerEnd => "innovation by the adaptive words -2147483648 by a term that is not clipped",
+    CrossAgainAbove => "innovation by the adaptive words clipped at the upper end, back below it, clipped there again",
+    CrossAgainBelow => "innovation by the adaptive words clipped at the lower end, back above it, clipped there again",
+    CountsUnequal => "four sums clipped, all at other numbers of terms",
 }
 
 impl Case {
@@ -116,6 +136,7 @@ impl Quantized<'_> {
         assert_eq!(inside.chosen(limit), self.row, "the row found here");
         self.find_input(&mut found);
         find_sums(&mut found, &inside);
+        clip_cases::of_quantize(&mut found, self.call);
         find_scales(&mut found, &inside);
         let unrestricted = self.find_distances(&mut found, &inside);
         QuantizedCases {

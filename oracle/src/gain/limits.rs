@@ -1,5 +1,6 @@
 //! Calls made for the limits of the gain stage: sums at the ends of their type, products of -32768
-//! by -32768, sums of 0, and terms of equal scales, of which distances are clipped.
+//! by -32768, sums of 0, sums that are clipped at all terms or at few, and terms of equal scales, of
+//! which distances are clipped.
 
 use super::{
     calls::Call,
@@ -91,6 +92,11 @@ pub fn zero_call(random: &mut Random) -> Call {
         0 => zero_pair(random, 5, 4),
         _ => zero_pair(random, 9, 8),
     };
+    of_two(random, [a, b])
+}
+
+/// A call of these lists in any two places, and another.
+fn of_two(random: &mut Random, [a, b]: [[i16; SUBFRAME]; 2]) -> Call {
     let other = mixed(random);
     let lists = match random.below(6) {
         0 => [a, b, other],
@@ -101,6 +107,61 @@ pub fn zero_call(random: &mut Random) -> Call {
         _ => [other, b, a],
     };
     with_pair(random, lists)
+}
+
+/// Words of which a sum is clipped at all terms or at few, or is at an end of its type.
+pub fn clips_call(random: &mut Random) -> Call {
+    let lists = match random.below(8) {
+        0 => [[i16::MIN; SUBFRAME]; 2],
+        1 => one_product(random),
+        2 => ending_lists(random),
+        _ => runs(random),
+    };
+    of_two(random, lists)
+}
+
+/// Words of 0 but for one product of -32768 by -32768, the first, the last or any.
+fn one_product(random: &mut Random) -> [[i16; SUBFRAME]; 2] {
+    const LAST: usize = SUBFRAME - 1;
+    let place = match random.below(3) {
+        0 => 0,
+        1 => LAST,
+        _ => random.below(SUBFRAME as u64) as usize,
+    };
+    let mut words = [0; SUBFRAME];
+    words[place] = i16::MIN;
+    [words; 2]
+}
+
+/// Words, and an innovation whose sum with them is 2147483647 or -2147483647.
+fn ending_lists(random: &mut Random) -> [[i16; SUBFRAME]; 2] {
+    const HALVES: [i64; 2] = [(1 << 30) - 1, -(1 << 30)];
+    loop {
+        let places = 3 + random.below(2) as u32;
+        let mut eighths = quiet(random, places);
+        eighths[random.below(SUBFRAME as u64) as usize] = 1;
+        // The sum is 1 and twice that of the products.
+        let half = HALVES[random.below(2) as usize];
+        if let Some(words) = target_of_sum(&eighths, half) {
+            return [words, eighths.map(|word| 8 * word)];
+        }
+    }
+}
+
+/// Runs of a word of full scale, of either sign, or of 0, and one such word everywhere.
+fn runs(random: &mut Random) -> [[i16; SUBFRAME]; 2] {
+    const WORDS: [i16; 4] = [0, i16::MIN, -i16::MAX, i16::MAX];
+    let everywhere = WORDS[1 + random.below(3) as usize];
+    let [mut word, mut left] = [0, 0];
+    let words = std::array::from_fn(|_| {
+        if left == 0 {
+            left = 1 + random.below(12) as i16;
+            word = WORDS[random.below(4) as usize];
+        }
+        left -= 1;
+        word
+    });
+    [words, [everywhere; SUBFRAME]]
 }
 
 /// Two lists with so many negative products at least, then exactly so many that bring the sum back;

@@ -10,6 +10,7 @@
 
 use super::{
     calls::Call,
+    clip_cases,
     correlations::{Correlation, Correlations, Dot, MOST, Rule},
 };
 use crate::{
@@ -72,6 +73,22 @@ cases! {
     Most => "gain 19661 that is not held",
     FirstHeld => "gain held at 19661, one more before",
     Held => "gain held at 19661",
+    EnergyOnce => "energy sum clipped at one term",
+    EnergyAlways => "energy sum clipped at all 40 terms",
+    EnergyProductFirst => "-32768 by -32768 as the first term of the energy sum",
+    EnergyProductLast => "-32768 by -32768 as the last term of the energy sum",
+    EnergyZeroBehind => "term of 0 directly behind one at which the energy sum is clipped",
+    EnergyOfQuarters => "energy sum of quarters clipped at another number of terms than the first",
+    TargetOnce => "target sum clipped at one term",
+    TargetAlways => "target sum clipped at all 40 terms",
+    TargetProductFirst => "-32768 by -32768 as the first term of the target sum",
+    TargetProductLast => "-32768 by -32768 as the last term of the target sum",
+    TargetZeroBehind => "term of 0 directly behind one at which the target sum is clipped",
+    TargetOfQuarters => "target sum of quarters clipped at another number of terms than the first",
+    TargetUpperEnd => "target sum 2147483647 by a term that is not clipped",
+    TargetLowerEnd => "target sum -2147483648 by a term that is not clipped",
+    TargetAgainAbove => "target sum clipped at the upper end, back below it, clipped there again",
+    TargetAgainBelow => "target sum clipped at the lower end, back above it, clipped there again",
 }
 
 /// A rule, and the case of an answer that it changes.
@@ -98,6 +115,7 @@ pub fn cases(call: &Call, answer: &PitchGain) -> Found<Case> {
     find_repeated(&mut found, yy, xy);
     find_words(&mut found, yy, xy);
     find_gain(&mut found, &correlations);
+    clip_cases::of_pitch_gain(&mut found, call);
     for (case, rule) in CHANGES {
         let other = Correlations::by(rule, target, adaptive);
         found.case(case, other.gain() != *answer);

@@ -44,7 +44,7 @@ impl Compared for Tally {
         self.cases
             .count_found(&pitch_cases::cases(call, &published));
         self.answers.compared += 1;
-        let expected = pitch_answer(Ok(published));
+        let expected = pitch_answer(Ok((published, call.pitch_clips())));
         if answer != expected {
             self.answers
                 .difference(drawn.index, drawn, &answer, &expected);

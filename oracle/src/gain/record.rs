@@ -3,14 +3,14 @@
 //!
 //! A record starts with a byte each for the number of target words, of adaptive words and of
 //! innovation words; then come the exponent, the fraction, the limit choice in one byte, and those
-//! words. Its two lines are `pitch_gain` with the gain, yy, its exponent, xy and its exponent, and
-//! `gain` with the index, the pitch gain and the correction. Either may be `refused` with the number
-//! and its detail.
+//! words. Its two lines are `pitch_gain` with the gain, yy, its exponent, xy, its exponent and the
+//! counts of its two sums, and `gain` with the index, the pitch gain, the correction and the counts of
+//! its five sums. Either may be `refused` with the number and its detail.
 
 use super::{
     calls::{Call, LISTS, SignedRefusal, checked, checked_pitch},
     cases::{self, CHANGES, Quantized},
-    pitch_cases,
+    clips, pitch_cases,
     rows::ROWS,
     sources::{self, Drawn},
 };
@@ -23,8 +23,10 @@ use crate::{
     words::{SUBFRAME, uniform},
 };
 
-/// The calls that are looked at for those which meet a case or have another row.
+/// The calls that are looked at for those which meet a case or have another row, and those behind them
+/// that are made for a number of clipped terms.
 const CALLS: u64 = 60_000;
+const CLIPPED: u64 = 4_000;
 
 /// Calls, and calls that are refused.
 pub fn sample() -> Recorded {
@@ -101,9 +103,11 @@ impl Met {
 /// Calls that meet all cases and have all rows, each the one that meets most of those which none
 /// before it met. No feed is among them, so that the sample is the same without one.
 fn calls() -> Vec<Call> {
-    let drawn: Vec<_> = (0..CALLS)
-        .map(|index| {
-            let drawn = Drawn::at(index, &[]);
+    let drawn = (0..CALLS).map(|index| Drawn::at(index, &[]));
+    let clipped = (0..CLIPPED).map(Drawn::of_clips);
+    let drawn: Vec<_> = drawn
+        .chain(clipped)
+        .map(|drawn| {
             let met = Met::by(&drawn);
             (drawn.call, met)
         })
@@ -142,10 +146,12 @@ impl Sample {
         let [target, adaptive, filtered] = lists;
         match checked_pitch([target.len(), adaptive.len()]) {
             Ok(()) => {
-                let [target, adaptive] = [target, adaptive].map(|list| list.try_into());
-                let answer = pitch_gain(target.expect(LENGTH), adaptive.expect(LENGTH));
+                let lists = [target, adaptive].map(|list| list.try_into().expect(LENGTH));
+                let [target, adaptive] = &lists;
+                let answer = pitch_gain(target, adaptive);
                 let numbers = [answer.gain_q14].into_iter().chain(answer.correlations);
-                self.0.line("pitch_gain", numbers);
+                let clips = clips::of_pitch_gain(target, adaptive).map(i16::from);
+                self.0.line("pitch_gain", numbers.chain(clips));
             }
             Err(refusal) => self.refuse(refusal.into()),
         }
@@ -162,7 +168,8 @@ impl Sample {
                 let index = call.quantize();
                 let [pitch, correction, _] = TABLE[usize::from(index)];
                 let numbers = [index.into(), i32::from(pitch), correction.into()];
-                self.0.line("gain", numbers);
+                let clips = call.clips().map(i32::from);
+                self.0.line("gain", numbers.into_iter().chain(clips));
             }
             Err(refusal) => self.refuse(refusal),
         }

@@ -113,6 +113,7 @@ fn compare_fractions() -> [Line; 2] {
     let [mut accepted, mut exponents, mut fractions] = [0; 3];
     for fraction in 0..=u16::MAX {
         let call = Drawn::at(fraction.into(), &[]).call;
+        let clips = call.clips();
         for exponent in SOME_EXPONENTS {
             for choice in [0, 1] {
                 let ours = project::quantize(call.lists(), exponent, fraction, choice);
@@ -124,7 +125,7 @@ fn compare_fractions() -> [Line; 2] {
                         limit,
                         ..call.clone()
                     };
-                    call.quantize()
+                    (call.quantize(), clips)
                 });
                 match row.map_err(|refusal| refusal.number) {
                     Ok(_) => accepted += 1,

@@ -29,6 +29,7 @@ cases! {
     CorrectionTie => "call of words made for a tie of two corrections",
     SameCode => "call of words made for the two rows whose corrections become the same",
     Aligned => "call of words made for equal scales",
+    Clips => "call of words made for a number of clipped terms",
     Feed => "call of the feed",
     ChangedFeed => "call of the feed's words, changed",
 }
@@ -75,6 +76,16 @@ impl Drawn {
             index,
             source,
             call,
+        }
+    }
+
+    /// The call of this index among those made for a number of clipped terms. `at` draws none of
+    /// them, so that the recorded feeds stay as they are.
+    pub fn of_clips(index: u64) -> Self {
+        Self {
+            index,
+            source: Case::Clips,
+            call: limits::clips_call(&mut Random::at(index)),
         }
     }
 

@@ -2,16 +2,24 @@ use mathlib.Core.Path.{◌≡◌, ap}
 use borrow.Author.Rules.{rules}
 use mir.Syntax.{w32}
 use mir.Val.{to_z, of_z}
-use Rattle.fixed.specs.declared.Flagged.{Flagged}
+use Rattle.fixed.proofs.Bounds.{got}
+use Rattle.gain_sums.specs.declared.Counted.{Counted}
+use Rattle.gain_sums.specs.Sums.{flagged_sum, counted_sum}
 use Rattle.gain_pitch.proofs.Overflowed.{anew, kept}
 use Rattle.gain_pitch.proofs.energy.Goals as goal
 
-pub returns-then-sum : goal.returns-then-sum
-returns-then-sum c =
-    let f : to_z w32 (of_z w32 c.square_sum.result.value) ≡ c.square_sum.result.value = search rules in
-    rw (anew _ _ _ _ c.square_sum-sum.ensures c.if-sum.true, c.normalized.ensures, f, ap (λ (f : Flagged). f.value) c.square_sum.ensures, c.shifted40.ensures)
+pub returns-then-first-gt0 : goal.returns-then-first-gt0
+unfolding flagged_sum
+returns-then-first-gt0 c =
+    rw (
+      anew _ _ _ _ _ c.requires c.if-first-gt0.true,
+      c.normalized.ensures,
+      got w32 c.square_value.type_inv c.square_value.ensures,
+      c.shifted40.ensures,
+    )
 
 pub returns : goal.returns
+unfolding counted_sum
 returns c =
-    let f : to_z w32 (of_z w32 c.square_sum-sum.result.value) ≡ c.square_sum-sum.result.value = search rules in
-    rw (kept _ _ _ _ c.square_sum-sum.ensures c.if-sum.false, c.normalized-2.ensures, f, ap (λ (f : Flagged). f.value) c.square_sum-sum.ensures)
+    let f : to_z w32 (of_z w32 c.args.first.value) ≡ c.args.first.value = search rules in
+    rw (kept _ _ _ _ _ c.requires c.if-first-gt0.false, c.normalized-2.ensures, f, ap (λ (f : Counted). f.value) c.requires)

@@ -1,13 +1,15 @@
-use mathlib.Core.Path.{◌≡◌}
+use mathlib.Core.Path.{◌≡◌, ap}
 use borrow.Author.Rules.{rules}
 use mir.Syntax.{w16}
 use mir.Val.{to_z, of_z}
 use Rattle.fixed.proofs.Bounds.{got}
+use Rattle.gain_sums.specs.declared.Counted.{Counted}
+use Rattle.gain_sums.specs.Sums.{counted_sum}
 use Rattle.gain_pitch.specs.Gains.{coefficients, G_pitch}
 use Rattle.gain_pitch.proofs.g_pitch.Goals as goal
 
 pub returns : goal.returns
-unfolding G_pitch coefficients
+unfolding G_pitch coefficients counted_sum
 returns c =
     let x = c.correlation-xy.result in
     let y = c.energy-yy.result in
@@ -25,4 +27,6 @@ returns c =
       ye,
       c.correlation-xy.ensures,
       c.energy-yy.ensures,
+      ap (λ (r : Counted). r.clips) c.square_sum-first_energy.ensures,
+      ap (λ (r : Counted). r.clips) c.dot-first_product.ensures,
     )

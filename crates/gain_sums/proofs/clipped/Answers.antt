@@ -7,15 +7,21 @@ use mir.Val.{to_z, of_z}
 use Rattle.fixed.specs.Operators.{L_mac, L_mac_flagged}
 use Rattle.fixed.specs.Lists.{at, L_sum}
 use Rattle.fixed.specs.declared.Flagged.{Flagged}
-use Rattle.gain_sums.specs.Sums.{sum, overflow as overflows, flagged_sum}
+use Rattle.gain_sums.specs.Sums.{sum, clips as clips_of, counted_sum}
+use Rattle.gain_sums.proofs.Counts.{clips_le, bit_is, byte_fits}
 use Rattle.gain_sums.proofs.clipped.Goals as goal
 
 pub loop-i-init : goal.loop-i-init
-unfolding sum L_sum overflows
-loop-i-init c = record { value_is = refl; overflow_is = refl }
+unfolding sum L_sum clips_of
+loop-i-init c = record { value_is = refl; clips_are = refl }
+
+pub overflow_add-clips : goal.overflow_add-clips
+overflow_add-clips c =
+    let l = clips_le c.args.left.now c.args.right.now c.loop-i.i in
+    byte_fits _ (rw c.loop-i.invariant.clips_are l) c.loop-i-test.true
 
 pub loop-i-preserved : goal.loop-i-preserved
-unfolding sum L_sum overflows L_mac_flagged L_mac
+unfolding sum L_sum clips_of L_mac_flagged L_mac
 loop-i-preserved c =
     let l = c.args.left.now in
     let r = c.args.right.now in
@@ -26,11 +32,11 @@ loop-i-preserved c =
     let e : c.mac_flagged-step.result ≡ L_mac_flagged (sum l r i) (at l i) (at r i) = c.mac_flagged-step.ensures ∙ rw (c.loop-i.invariant.value_is, x, y) in
     record {
       value_is = v ∙ rw (add-one i) (ap (λ (f : Flagged). f.value) e);
-      overflow_is = rw (add-one i, c.loop-i.invariant.overflow_is, ap (λ (f : Flagged). f.overflow) e);
+      clips_are = rw (add-one i, c.loop-i.invariant.clips_are, bit_is c.mac_flagged-step.result.overflow, ap (λ (f : Flagged). f.overflow) e);
     }
 
 pub returns : goal.returns
-unfolding flagged_sum
+unfolding counted_sum
 returns c =
     let e : c.loop-i.i ≡ 40 = omega arith in
-    rw (c.loop-i.invariant.value_is, c.loop-i.invariant.overflow_is, e)
+    rw (c.loop-i.invariant.value_is, c.loop-i.invariant.clips_are, e)

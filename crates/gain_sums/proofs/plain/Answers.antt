@@ -11,6 +11,7 @@ use Rattle.fixed.proofs.Bounds.{got}
 use Rattle.fixed.specs.Lists.{at}
 use Rattle.sums.specs.Plain.{plain}
 use Rattle.gain_sums.proofs.Plains.{half as half_of, half_fits, twice_fits, whole_fits, sum_is, no_overflow}
+use Rattle.gain_sums.proofs.Counts.{no_clips}
 use Rattle.gain_sums.proofs.plain.Goals as goal
 
 pub loop-i-init : goal.loop-i-init
@@ -52,5 +53,5 @@ returns c =
     let r = c.args.right.now in
     let q = c.loop-i.invariant.quiet in (
       to_z-of_z (overflow_add-result c) ∙ rw (to_z-of_z (overflow_mul-result c), all c) (sym (sum_is l r q 40 (omega arith))),
-      no_overflow l r q 40 (omega arith),
+      no_clips l r 40 (no_overflow l r q 40 (omega arith)),
     )
