@@ -2,17 +2,16 @@
 use mathlib.Core.Path.{◌≡◌, refl, sym, ap, ◌∙◌}
 use mathlib.Core.Bool.{false}
 use mathlib.Core.List.{List}
-use Prim.Native.Nat.{ℕ, zero, suc, ◌*◌, ◌^◌, ◌<◌, ◌≤◌}
+use Prim.Native.Nat.{ℕ, zero, suc, ◌*◌, ◌<◌, ◌≤◌}
 use native.Mathlib.Omega.{arith}
 use lib.IntN.{ℤ, pos, nat_abs, ◌+ℤ◌, ◌*ℤ◌, +ℤ_assoc, +ℤ_comm}
-use lib.Signed.{mag}
 use mir.Syntax.{w32}
 use mir.Val.{SFits}
-use borrow.Author.Tests.{lt-leb}
-use Rattle.fixed.specs.Operators.{L_add, L_mult, L_mac_overflow, beyond}
+use Rattle.fixed.specs.Operators.{L_add, L_mult, L_mac_overflow}
 use Rattle.fixed.specs.Lists.{at, L_sum}
 use Rattle.fixed.proofs.Bounds.{abs_add, abs_mul, fits_abs}
 use Rattle.fixed.proofs.Clips.{clip_id}
+use Rattle.compound.proofs.Overflows.{past_end}
 use Rattle.sums.proofs.Plain.{double_add, plain_mult}
 use Rattle.sums.specs.Plain.{plain}
 use Rattle.gain_sums.specs.Sums.{sum, overflow}
@@ -64,13 +63,10 @@ module _ (xs ys : List ℤ) where
     sum_is (suc n) h =
         rw (sum_is n (omega arith), product_is n h, whole_more n) (clip_id 31 (whole (suc n)) (whole_fits (suc n) h).sfits)
 
-    within : (z : ℤ) → SFits w32 z → beyond 31 z ≡ false
-    within z f = lt-leb (2 ^ 31) (mag z) f.sfits
-
     pub no_overflow : (i : ℕ) → i ≤ 40 → overflow xs ys i ≡ false
     unfolding overflow L_mac_overflow
     no_overflow zero h = refl
     no_overflow (suc n) h =
         let p : ℤ = at xs n *ℤ at ys n in
         let f : SFits w32 (pos 2 *ℤ p) = fits_abs w32 (pos 2 *ℤ p) (omega (arith, q n h, abs_mul (at xs n) (at ys n), abs_mul (pos 2) p)) in
-        rw (no_overflow n (omega arith), within (pos 2 *ℤ p) f, sum_is n (omega arith), product_is n h, whole_more n) (within (whole (suc n)) (whole_fits (suc n) h))
+        rw (no_overflow n (omega arith), ← (past_end (pos 2 *ℤ p) false f), sum_is n (omega arith), product_is n h, whole_more n) (sym (past_end (whole (suc n)) false (whole_fits (suc n) h)))

@@ -1,10 +1,12 @@
 use mathlib.Core.Path.{◌≡◌, refl, ap, ◌∙◌}
+use mathlib.Core.Bool.{cond}
+use Prim.Native.Nat.{ℕ, ◌+◌}
 use native.Mathlib.Omega.{arith}
 use native.Mathlib.Numerals.{add-one}
 use borrow.Author.Rules.{rules}
 use mir.Syntax.{w16, w32}
-use mir.Val.{to_z, of_z}
-use Rattle.fixed.specs.Operators.{L_mac, L_mac_flagged}
+use mir.Val.{to_z, of_z, bool_byte}
+use Rattle.fixed.specs.Operators.{L_mac, L_mac_overflow, L_mac_flagged}
 use Rattle.fixed.specs.Lists.{at, L_sum}
 use Rattle.fixed.specs.declared.Flagged.{Flagged}
 use Rattle.gain_sums.specs.Sums.{sum, clips as clips_of, counted_sum}
@@ -30,9 +32,12 @@ loop-i-preserved c =
     let x : to_z w16 (of_z w16 (at l i)) ≡ at l i = search rules in
     let y : to_z w16 (of_z w16 (at r i)) ≡ at r i = search rules in
     let e : c.mac_flagged-step.result ≡ L_mac_flagged (sum l r i) (at l i) (at r i) = c.mac_flagged-step.ensures ∙ rw (c.loop-i.invariant.value_is, x, y) in
+    let b : bool_byte c.mac_flagged-step.result.overflow ≡ cond (L_mac_overflow (sum l r i) (at l i) (at r i)) 1 0 =
+    bit_is c.mac_flagged-step.result.overflow ∙ ap (λ (f : Flagged). cond f.overflow 1 0) e
+    in
     record {
       value_is = v ∙ rw (add-one i) (ap (λ (f : Flagged). f.value) e);
-      clips_are = rw (add-one i, c.loop-i.invariant.clips_are, bit_is c.mac_flagged-step.result.overflow, ap (λ (f : Flagged). f.overflow) e);
+      clips_are = rw (add-one i, c.loop-i.invariant.clips_are) (ap (λ (n : ℕ). clips_of l r i + n) b);
     }
 
 pub returns : goal.returns

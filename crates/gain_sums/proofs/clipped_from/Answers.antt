@@ -1,13 +1,17 @@
-use mathlib.Core.Path.{◌≡◌, sym}
-use Prim.Native.Nat.{suc, ◌+◌, ◌-◌, ◌^◌, ◌≤◌}
+use mathlib.Core.Path.{◌≡◌, sym, ap, ◌∙◌}
+use mathlib.Core.Bool.{Bool, cond, not}
+use Prim.Native.Nat.{ℕ, suc, ◌*◌, ◌+◌, ◌-◌, ◌^◌, ◌≤◌}
 use native.Mathlib.Omega.{arith}
 use native.Mathlib.Numerals.{add-one}
+use lib.Dec.{eqb, ltb}
+use lib.IntN.{nat_abs}
 use borrow.Author.Rules.{rules}
 use mir.Syntax.{w16}
-use mir.Val.{SFits}
+use mir.Val.{SFits, of_z, bool_byte}
 use Rattle.fixed.specs.Lists.{at}
 use Rattle.sums.specs.Plain.{squared}
 use Rattle.sums.proofs.Quiet.{squared_more}
+use Rattle.gain_sums.specs.Sums.{clips as clips_of}
 use Rattle.gain_sums.proofs.Counts.{clips_le, bit_is, byte_fits}
 use Rattle.gain_sums.proofs.Squares.{loud_squares, not_zero}
 use Rattle.gain_sums.proofs.clipped_from.Goals as goal
@@ -29,7 +33,10 @@ loop-i-preserved c =
     let m : squared (at xs) (suc first) ≤ squared (at xs) (suc first + (i - first)) = squared_more (at xs) (suc first) (i - first) in
     let h : 2 ^ 30 ≤ squared (at xs) (suc i) = omega (arith, c.requires.1, rw e at m) in
     let f : SFits w16 (at xs i) = search rules in
-    rw (add-one i, loud_squares xs i h, c.loop-i.invariant, bit_is, not_zero f)
+    let b : bool_byte (not (eqb (of_z w16 (at xs i)) 0)) ≡ cond (ltb 0 (nat_abs (at xs i) * nat_abs (at xs i))) 1 0 =
+    bit_is (not (eqb (of_z w16 (at xs i)) 0)) ∙ ap (λ (t : Bool). cond t 1 0) (not_zero f)
+    in
+    rw (add-one i, loud_squares xs i h, c.loop-i.invariant) (ap (λ (n : ℕ). clips_of xs xs i + n) b)
 
 pub returns : goal.returns
 returns c = let e : c.loop-i.i ≡ 40 = omega (arith, c.loop-i.auto.i-end, c.requires.0) in rw e at c.loop-i.invariant
