@@ -121,14 +121,23 @@ mr74_open_loop_answer mr74_open_loop_lag(uint16_t samples);
 /* ---- Closed loop ---- */
 
 /*
- * A searcher or a lag reader. Calls take any numbers: no answer depends on the fraction, and a
- * `next` outside 1 to 4 is refused by 2, directly after the call's own subframe. A refused call
- * hands back the numbers that it was given, whatever they are.
+ * A searcher or a lag reader. Calls take any numbers: no answer depends on the fraction or on the
+ * start, and a `next` outside 1 to 4 is refused by 2, directly after the call's own subframe. A
+ * refused call hands back the numbers that it was given, whatever they are.
+ *
+ * `start` tells which window a lag came from. After an accepted search it is the first whole lag
+ * that was searched: the first open-loop lag less 3 in subframe 1 and the second less 3 in 3, both
+ * held to 20 to 137; the previous whole lag less 5 in 2 and 4, held to 20 to 134. The whole lag
+ * that the search answers lies between start - 1 and start + 10.
+ * After an accepted reading it is the start that the reader used in subframes 2 and 4, by the same
+ * rule, and 0 in 1 and 3. Where a subframe 2 or 4 directly follows an index that arrived as it was
+ * sent, reader and searcher have the same start after it, even if its own index is damaged.
  */
 typedef struct {
     uint16_t samples; /* the lag before: whole samples .. */
     int16_t fraction; /* .. and thirds, -1, 0 or 1 */
     uint8_t next;     /* the subframe expected, 1 to 4 */
+    uint16_t start;   /* of the last window, 0 when fresh */
 } mr74_pitch_state;
 
 typedef struct {
@@ -140,9 +149,10 @@ typedef struct {
     uint16_t previous_samples; /* the searcher or reader after the call */
     int16_t previous_fraction;
     uint8_t next;
+    uint16_t start;
 } mr74_pitch_answer;
 
-/* A fresh searcher or reader: lag 40, expecting subframe 1. */
+/* A fresh searcher or reader: lag 40, expecting subframe 1, start 0. */
 mr74_pitch_state mr74_fresh_pitch(void);
 
 /*
@@ -162,7 +172,8 @@ mr74_pitch_answer mr74_read_lag(mr74_pitch_state reader, uint8_t subframe, uint8
 /* What the searcher or the reader is after a call. */
 static inline mr74_pitch_state mr74_pitch_after(const mr74_pitch_answer *answer)
 {
-    mr74_pitch_state after = {answer->previous_samples, answer->previous_fraction, answer->next};
+    mr74_pitch_state after = {answer->previous_samples, answer->previous_fraction, answer->next,
+                              answer->start};
     return after;
 }
 
@@ -317,9 +328,11 @@ typedef struct {
     uint16_t searcher_samples; /* searcher and reader after the step */
     int16_t searcher_fraction;
     uint8_t searcher_next;
+    uint16_t searcher_start;
     uint16_t reader_samples;
     int16_t reader_fraction;
     uint8_t reader_next;
+    uint16_t reader_start;
 } mr74_step_answer;
 
 /*
@@ -347,8 +360,8 @@ mr74_step_answer mr74_step(const uint8_t *feed, size_t feed_length, size_t at,
 MR74_LAYOUT(sizeof(void *) == 8 && sizeof(size_t) == 8 && sizeof(bool) == 1);
 MR74_LAYOUT(sizeof(mr74_length_answer) == 16);
 MR74_LAYOUT(sizeof(mr74_open_loop_answer) == 24);
-MR74_LAYOUT(sizeof(mr74_pitch_state) == 6);
-MR74_LAYOUT(sizeof(mr74_pitch_answer) == 32 && offsetof(mr74_pitch_answer, next) == 26);
+MR74_LAYOUT(sizeof(mr74_pitch_state) == 8 && offsetof(mr74_pitch_state, start) == 6);
+MR74_LAYOUT(sizeof(mr74_pitch_answer) == 32 && offsetof(mr74_pitch_answer, start) == 28);
 MR74_LAYOUT(sizeof(mr74_sharpening_gain) == 2);
 MR74_LAYOUT(sizeof(mr74_pulses_answer) == 24);
 MR74_LAYOUT(sizeof(mr74_places_answer) == 48);
@@ -359,7 +372,7 @@ MR74_LAYOUT(sizeof(mr74_gain_answer) == 32 && offsetof(mr74_gain_answer, negativ
 MR74_LAYOUT(sizeof(mr74_logarithm) == 4);
 MR74_LAYOUT(sizeof(mr74_power_answer) == 24 && offsetof(mr74_power_answer, value) == 16);
 MR74_LAYOUT(sizeof(mr74_record_answer) == 40 && offsetof(mr74_record_answer, from) == 24);
-MR74_LAYOUT(sizeof(mr74_step_answer) == 48 && offsetof(mr74_step_answer, reader_next) == 46);
+MR74_LAYOUT(sizeof(mr74_step_answer) == 56 && offsetof(mr74_step_answer, reader_start) == 50);
 #undef MR74_LAYOUT
 
 #ifdef __cplusplus

@@ -64,9 +64,9 @@ int main(void)
         if (record.number != MR74_ACCEPTED)
             break;
         searcher = (mr74_pitch_state){answer.searcher_samples, answer.searcher_fraction,
-                                      answer.searcher_next};
-        reader =
-            (mr74_pitch_state){answer.reader_samples, answer.reader_fraction, answer.reader_next};
+                                      answer.searcher_next, answer.searcher_start};
+        reader = (mr74_pitch_state){answer.reader_samples, answer.reader_fraction,
+                                    answer.reader_next, answer.reader_start};
         at = record.from + record.length;
         record = mr74_record(feed, length, at);
     }

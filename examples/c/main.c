@@ -39,7 +39,7 @@ static uint16_t open_loop(state *kept, const int16_t samples[MR74_HALF_FRAME])
     return open.lag;
 }
 
-/* The pitch of a subframe, sent and read back. */
+/* The pitch of a subframe, sent and read back, each with the start of its window. */
 static mr74_pitch_answer pitch(state *kept, const int16_t excitation[MR74_EXCITATION],
                                const int16_t target[MR74_SUBFRAME],
                                const int16_t impulse[MR74_SUBFRAME], uint16_t lag,
@@ -54,9 +54,11 @@ static mr74_pitch_answer pitch(state *kept, const int16_t excitation[MR74_EXCITA
         return sent;
     }
     printf("pitch %u %u %d\n", sent.index, sent.samples, sent.fraction);
+    printf("start %u\n", sent.start);
     mr74_pitch_answer read = mr74_read_lag(kept->reader, subframe, sent.index);
     kept->reader = mr74_pitch_after(&read);
     printf("lag %u %d\n", read.samples, read.fraction);
+    printf("start %u\n", read.start);
     return sent;
 }
 

@@ -1,6 +1,7 @@
 //! The Rust bindings beside the published Rust, by the names and shapes that both have. A value of
 //! one and its namesake of the other are compared as they are shown, so that the names of types and
-//! fields count too. A pitch gain and a row have counts that the published ones have not, and are
+//! fields count too. A searcher has a start that the published one has not: it is added where that
+//! one is shown. A pitch gain and a row have counts that the published ones have not, and are
 //! compared by their parts.
 
 mod parts;
@@ -20,9 +21,9 @@ use crate::{
     open_loop::{self, HALF_FRAME},
     published, pulses,
     reader::{Reading, read},
-    search,
+    search::Searcher,
     selection::first,
-    subframes::{Refusal, number, subframe},
+    subframes::{Refusal, number, read_start, subframe},
     words::{SUBFRAME, impulse_response, mixed},
 };
 use mr74::{
@@ -334,9 +335,9 @@ pub fn compare_chains(with: &'static str, chain: fn(u64) -> Vec<Told>) -> Vec<Li
 fn search_chain(index: u64) -> Vec<Told> {
     let mut chain = Chain::at(index, &[]);
     let mut ours = Search::default();
-    let mut other = pitch::search::Search::default();
+    let mut other = Searcher::default();
     let mut steps = Vec::new();
-    while let Some(step) = chain.next(&other) {
+    while let Some(step) = chain.next(&other.search) {
         let answers = match step {
             Step::Reset => {
                 ours.reset();
@@ -347,20 +348,23 @@ fn search_chain(index: u64) -> Vec<Told> {
             Step::Search(call) if call.lists().is_err() || subframe(call.subframe).is_err() => {
                 continue;
             }
-            Step::Search(call) => {
-                let answer = searched(&mut ours, &call);
-                let before = other.clone();
-                let published = search::published(&before, &mut other, &call);
-                [
-                    told(answer),
-                    told(published.map(|searched| searched.answer)),
-                ]
-            }
+            Step::Search(call) => [
+                told(searched(&mut ours, &call)),
+                told(other.searched(&call)),
+            ],
         };
         let [answer, expected] = answers;
-        steps.push([answer + &told(&ours), expected + &told(&other)]);
+        steps.push([answer + &told(&ours), expected + &shown(&other)]);
     }
     steps
+}
+
+/// The published search as it is shown, with the start behind its own fields.
+fn shown(searcher: &Searcher) -> String {
+    const END: &str = " }";
+    let search = told(&searcher.search);
+    let fields = search.strip_suffix(END).expect("named fields");
+    format!("{fields}, start: {}{END}", searcher.start)
 }
 
 fn detector_chain(index: u64) -> Vec<Told> {
@@ -382,6 +386,7 @@ fn reader_chain(index: u64) -> Vec<Told> {
     let mut ours = LagReader::default();
     let mut previous = pitch::search::Search::default().previous;
     let mut expected = 1;
+    let mut start = 0;
     let step = |_| {
         let asked = match random.below(4) {
             0 => 1 + random.below(4) as u8,
@@ -392,17 +397,19 @@ fn reader_chain(index: u64) -> Vec<Told> {
         let published = read(Reading {
             previous,
             expected,
+            start,
             subframe: asked,
             index: sent,
         });
         if let Ok(lag) = published {
             previous = lag;
             expected = asked % 4 + 1;
+            start = read_start(asked, lag, sent);
         }
         let next = subframe(expected).map(number).expect("a subframe");
         [
-            told((answer, ours.previous, ours.next.number())),
-            told((published, previous, next)),
+            told((answer, ours.previous, ours.next.number(), ours.start)),
+            told((published, previous, next, start)),
         ]
     };
     (0..STEPS).map(step).collect()

@@ -14,7 +14,7 @@ use crate::{
         },
     },
     counts::{Found, cases},
-    subframes::{Refusal, window},
+    subframes::{ABSOLUTE_RADIUS, RELATIVE_RADIUS, Refusal, searched_start, window},
     sums::{Sum, clip32},
     words::{HISTORY, SUBFRAME},
 };
@@ -42,6 +42,15 @@ cases! {
     Lag144 => "answered lag 144",
     Index0 => "relative index 0",
     Index31 => "relative index 31",
+    AbsoluteRaised => "start raised to 20 in subframe 1 or 3",
+    AbsoluteLowered => "start lowered to 137 in subframe 1 or 3",
+    RelativeRaised => "start raised to 20 in subframe 2 or 4",
+    RelativeLowered => "start lowered to 134 in subframe 2 or 4",
+    BelowStart => "answered lag start - 1",
+    FarAboveStart => "answered lag start + 10",
+    AbsoluteBelowStart => "absolute lag start - 1",
+    AbsoluteAtStart => "absolute lag start",
+    AbsoluteAboveEnd => "absolute lag start + 7",
     AbsoluteAbove84 => "absolute lag above 84",
     LagTie => "tie of whole lags",
     UnequalLagTie => "tie of whole lags where the window has other values too",
@@ -68,6 +77,9 @@ cases! {
     InterpolationEarly => "interpolation sum that clipping only at its end would change",
     RoundingClip => "rounding of an interpolation clipped",
     Reset => "reset",
+    ResetStart => "reset of a start that is not 0",
+    KeptStart => "start that is not 0 kept by a refusal",
+    KeptZero => "start 0 kept by a refusal",
     Refusal1 => "refusal 1",
     Refusal2 => "refusal 2",
     Refusal3 => "refusal 3",
@@ -81,6 +93,14 @@ impl Case {
             2 => Self::Refusal2,
             3 => Self::Refusal3,
             _ => Self::Refusal4,
+        }
+    }
+
+    /// Of the start that a refusal keeps.
+    pub fn of_kept(start: u16) -> Self {
+        match start {
+            0 => Self::KeptZero,
+            _ => Self::KeptStart,
         }
     }
 
@@ -114,6 +134,11 @@ impl Searched<'_> {
         found
     }
 
+    /// The start of the window.
+    pub fn start(&self) -> u16 {
+        searched_start(self.before, self.open_loop, self.subframe, self.answer)
+    }
+
     fn find_cases(&self, found: &mut Found<Case>) {
         let absolute = self.subframe.absolute();
         found.case(Case::Absolute, absolute);
@@ -135,6 +160,7 @@ impl Searched<'_> {
             3 * lag as i16 + fraction(found, &correlation, lag)
         };
         self.find_answer_cases(found, thirds);
+        self.find_start_cases(found);
     }
 
     /// The cases of the answer, which is so many thirds of a sample.
@@ -149,6 +175,26 @@ impl Searched<'_> {
         let relative = !self.subframe.absolute();
         found.case(Case::Index0, relative && index == 0);
         found.case(Case::Index31, relative && index == 31);
+    }
+
+    /// The cases of the window's start, and of the answered lag beside it.
+    fn find_start_cases(&self, found: &mut Found<Case>) {
+        let absolute = self.subframe.absolute();
+        let start = self.start();
+        let centre = self.open_loop[self.subframe.half()].samples();
+        let unheld = start + ABSOLUTE_RADIUS;
+        found.case(Case::AbsoluteRaised, absolute && unheld > centre);
+        found.case(Case::AbsoluteLowered, absolute && unheld < centre);
+        let centre = self.before.previous.samples();
+        let unheld = start + RELATIVE_RADIUS;
+        found.case(Case::RelativeRaised, !absolute && unheld > centre);
+        found.case(Case::RelativeLowered, !absolute && unheld < centre);
+        let lag = self.answer.lag.samples();
+        found.case(Case::BelowStart, lag == start - 1);
+        found.case(Case::FarAboveStart, lag == start + 10);
+        found.case(Case::AbsoluteBelowStart, absolute && lag == start - 1);
+        found.case(Case::AbsoluteAtStart, absolute && lag == start);
+        found.case(Case::AbsoluteAboveEnd, absolute && lag == start + 7);
     }
 
     /// The correlations of these lags.

@@ -26,6 +26,7 @@ mod published;
 mod pulses;
 mod reader;
 mod record;
+mod recovery;
 mod search;
 mod selection;
 mod speech;
@@ -111,6 +112,7 @@ fn compare_functions(names: &[&str]) -> Result<ExitCode, String> {
     functions.extend(lists::functions());
     functions.extend(reader::functions());
     functions.extend(search::functions());
+    functions.extend(recovery::functions());
     functions.extend(open_loop::functions());
     functions.extend(filtering::functions());
     functions.extend(pulses::functions());

@@ -189,11 +189,13 @@ pub fn states(answer: &StepAnswer) -> [PitchState; 2] {
             samples: answer.searcher_samples,
             fraction: answer.searcher_fraction,
             next: answer.searcher_next,
+            start: answer.searcher_start,
         },
         PitchState {
             samples: answer.reader_samples,
             fraction: answer.reader_fraction,
             next: answer.reader_next,
+            start: answer.reader_start,
         },
     ]
 }
@@ -204,9 +206,11 @@ pub fn with_states(answer: StepAnswer, [searcher, reader]: [PitchState; 2]) -> S
         searcher_samples: searcher.samples,
         searcher_fraction: searcher.fraction,
         searcher_next: searcher.next,
+        searcher_start: searcher.start,
         reader_samples: reader.samples,
         reader_fraction: reader.fraction,
         reader_next: reader.next,
+        reader_start: reader.start,
         ..answer
     }
 }

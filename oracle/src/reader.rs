@@ -1,11 +1,12 @@
-//! The lag reader, on all inputs: every state that calls can reach, every subframe and index.
+//! The lag reader, on all inputs: every lag and expected subframe that calls can reach, with a
+//! start that a reader may have there, every subframe and index.
 
 use crate::{
     codec::mr74::pitch::{PitchLag, search::Subframe},
     compare::{Function, function},
     inputs::Inputs,
     project::{PitchAnswer, PitchState, read_lag},
-    subframes::{Refusal, answer, pitch_state, subframe},
+    subframes::{Refusal, answer, pitch_state, read_start, relative_start, subframe},
 };
 
 /// A call of the reader, and the state that it is in.
@@ -13,13 +14,14 @@ use crate::{
 pub struct Reading {
     pub previous: PitchLag,
     pub expected: u8,
+    pub start: u16,
     pub subframe: u8,
     pub index: u8,
 }
 
 impl Reading {
     fn state(self) -> PitchState {
-        pitch_state(self.previous, self.expected)
+        pitch_state(self.previous, self.expected, self.start)
     }
 
     /// The subframe, where it is the one expected.
@@ -34,6 +36,16 @@ impl Reading {
 
     fn is_relative(self) -> bool {
         self.in_turn().is_some_and(|subframe| !subframe.absolute())
+    }
+
+    /// The state after this published lag was read. 01's window rule must give the same start.
+    pub fn state_after(self, lag: PitchLag) -> PitchState {
+        let start = read_start(self.subframe, lag, self.index);
+        if self.is_relative() {
+            let ruled = relative_start(self.previous);
+            assert_eq!(start, ruled, "the start that is found here");
+        }
+        pitch_state(lag, self.subframe % 4 + 1, start)
     }
 }
 
@@ -60,13 +72,23 @@ fn readings() -> Inputs<impl Fn(u64) -> Option<Reading> + Sync> {
         count: (previous.len() as u64 * 4) << 16,
         at: move |index| {
             let state = (index >> 16) as usize;
+            let (previous, expected) = (previous[state / 4], 1 + (state % 4) as u8);
             Some(Reading {
-                previous: previous[state / 4],
-                expected: 1 + (state % 4) as u8,
+                previous,
+                expected,
+                start: start_before(previous, expected),
                 subframe: (index >> 8) as u8,
                 index: index as u8,
             })
         },
+    }
+}
+
+/// A start that a reader may have: 0 after subframes 1 and 3, else that of a window about the lag.
+fn start_before(previous: PitchLag, expected: u8) -> u16 {
+    match expected {
+        2 | 4 => 0,
+        _ => relative_start(previous),
     }
 }
 
@@ -101,7 +123,7 @@ fn ours(reading: Reading) -> PitchAnswer {
 fn expected(reading: Reading) -> PitchAnswer {
     let lag = read(reading);
     let after = match lag {
-        Ok(lag) => pitch_state(lag, reading.expected % 4 + 1),
+        Ok(lag) => reading.state_after(lag),
         Err(_) => reading.state(),
     };
     answer(lag.map(|lag| (0, lag)), after)

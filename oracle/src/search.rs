@@ -4,7 +4,7 @@ use crate::{
     calls::{Call, Step, step},
     cases::{Case, Searched},
     chains::Chain,
-    codec::mr74::pitch::search::{OpenLoopLag, Search},
+    codec::mr74::pitch::search::{OpenLoopLag, Search, SearchedPitch},
     compare::{Function, Line, in_threads},
     counts::Cases,
     feed,
@@ -14,6 +14,32 @@ use crate::{
 use std::fmt;
 
 const CHAINS: u64 = 24_000;
+
+/// The published search, and the start of its last window, which it does not keep.
+#[derive(Clone, Default)]
+pub struct Searcher {
+    pub search: Search,
+    pub start: u16,
+}
+
+impl Searcher {
+    pub fn reset(&mut self) {
+        self.search.reset();
+        self.start = 0;
+    }
+
+    pub fn state(&self) -> PitchState {
+        state(&self.search, self.start)
+    }
+
+    /// The published answer. A refusal keeps the start.
+    pub fn searched(&mut self, call: &Call) -> Result<SearchedPitch, Refusal> {
+        let before = self.search.clone();
+        let searched = published(&before, &mut self.search, call)?;
+        self.start = searched.start();
+        Ok(searched.answer)
+    }
+}
 
 pub fn functions() -> [Function; 1] {
     [Function {
@@ -26,6 +52,7 @@ pub fn functions() -> [Function; 1] {
 struct Tally {
     answers: Line,
     states: Line,
+    lags: Line,
     cases: Cases<Case>,
 }
 
@@ -34,6 +61,7 @@ impl Tally {
         Self {
             answers: Line::new("pitch/search.rs, answers"),
             states: Line::new("pitch/search.rs, states after"),
+            lags: Line::new("rule of 02, lag from start - 1 to start + 10"),
             cases: Cases::new(),
         }
     }
@@ -41,6 +69,7 @@ impl Tally {
     fn add(&mut self, part: Tally) {
         self.answers.add(part.answers);
         self.states.add(part.states);
+        self.lags.add(part.lags);
         self.cases.add(part.cases);
     }
 
@@ -50,32 +79,49 @@ impl Tally {
         &mut self,
         place: &Place<'_>,
         mut ours: PitchState,
-        search: &mut Search,
+        searcher: &mut Searcher,
     ) -> PitchState {
         match place.step {
             Step::Reset => {
                 self.cases.count(Case::Reset);
-                search.reset();
+                if searcher.start != 0 {
+                    self.cases.count(Case::ResetStart);
+                }
+                searcher.reset();
                 ours = fresh_pitch();
             }
             Step::Search(call) => {
                 let library = searched(ours, call);
-                let expected = expected(&mut self.cases, place.case, search, call);
+                let expected = expected(&mut self.cases, place.case, searcher, call);
                 let answers = (Answer::from(library), Answer::from(expected));
                 self.answers.compared += 1;
                 if answers.0 != answers.1 {
                     self.answers
                         .difference(place.chain, place, &answers.0, &answers.1);
                 }
+                if library.number == 0 {
+                    self.compare_lag(place, &library);
+                }
                 ours = library.state();
             }
         }
-        let after = state(search);
+        let after = searcher.state();
         self.states.compared += 1;
         if ours != after {
             self.states.difference(place.chain, place, &ours, &after);
         }
         after
+    }
+
+    /// Compares an accepted lag with the start that is kept with it.
+    fn compare_lag(&mut self, place: &Place<'_>, library: &PitchAnswer) {
+        let start = i32::from(library.start);
+        let lags = start - 1..=start + 10;
+        self.lags.compared += 1;
+        if !lags.contains(&library.samples.into()) {
+            self.lags
+                .difference(place.chain, place, &library.samples, &lags);
+        }
     }
 }
 
@@ -92,7 +138,7 @@ fn compare_chains() -> Vec<Line> {
     }
     let asked = |case: Case| !feed.is_empty() || !case.needs_feed();
     let cases = Line::of_cases(tally.cases.counts(asked));
-    vec![tally.answers, tally.states, cases]
+    vec![tally.answers, tally.states, tally.lags, cases]
 }
 
 /// A step of a chain, as a report shows it.
@@ -118,23 +164,23 @@ impl fmt::Debug for Place<'_> {
 
 fn compare_chain(tally: &mut Tally, index: u64, feed: &[Step]) {
     let mut chain = Chain::at(index, feed);
-    let mut search = Search::default();
+    let mut searcher = Searcher::default();
     let mut ours = fresh_pitch();
     let mut number = 0;
-    while let Some(step) = chain.next(&search) {
+    while let Some(step) = chain.next(&searcher.search) {
         number += 1;
         let place = Place {
             chain: index,
             number,
             case: chain.case(),
-            before: state(&search),
+            before: searcher.state(),
             step: &step,
         };
-        ours = tally.compare_step(&place, ours, &mut search);
+        ours = tally.compare_step(&place, ours, &mut searcher);
     }
 }
 
-fn searched(state: PitchState, call: &Call) -> PitchAnswer {
+pub fn searched(state: PitchState, call: &Call) -> PitchAnswer {
     pitch_search(
         state,
         &call.excitation,
@@ -147,24 +193,31 @@ fn searched(state: PitchState, call: &Call) -> PitchAnswer {
 
 /// The published answer in the form of the library's. Its cases are counted, `case` with them if
 /// the call is accepted.
-fn expected(cases: &mut Cases<Case>, case: Case, search: &mut Search, call: &Call) -> PitchAnswer {
-    let before = search.clone();
-    let searched = published(&before, search, call);
+fn expected(
+    cases: &mut Cases<Case>,
+    case: Case,
+    searcher: &mut Searcher,
+    call: &Call,
+) -> PitchAnswer {
+    let before = searcher.search.clone();
+    let searched = published(&before, &mut searcher.search, call);
     match &searched {
         Ok(searched) => {
             cases.count(case);
             cases.count_found(&searched.cases());
+            searcher.start = searched.start();
         }
         Err(refusal) => {
             cases.count(Case::of_refusal(*refusal));
+            cases.count(Case::of_kept(searcher.start));
             assert_eq!(
-                before, *search,
+                before, searcher.search,
                 "a refusal leaves the published search alone"
             );
         }
     }
     let searched = searched.map(|searched| (searched.answer.index, searched.answer.lag));
-    answer(searched, state(search))
+    answer(searched, searcher.state())
 }
 
 /// The published search, with the checks of 01 that its types make needless.

@@ -21,7 +21,7 @@ use crate::{
     project::*,
     published, pulses,
     speech::Speech,
-    subframes::{number, state},
+    subframes::{number, searched_start, state},
     words::{EXCITATION, SUBFRAME, uniform},
 };
 use std::{hint::black_box, time::Instant};
@@ -153,13 +153,14 @@ fn calls(loud: bool) -> Vec<Call> {
     let random = &mut Random::at(0);
     let mut speech = Speech::new(random, BITS);
     let mut search = Search::default();
+    let mut start = 0;
     let mut calls = Vec::new();
     while calls.len() < 2 * LISTS {
         speech.advance(random);
         let lags = [speech.open_loop(random), speech.open_loop(random)];
         let call = Call {
             before: search.clone(),
-            state: state(&search),
+            state: state(&search, start),
             excitation: if loud {
                 uniform(random)
             } else {
@@ -174,7 +175,9 @@ fn calls(loud: bool) -> Vec<Call> {
             open_loop: lags.map(|lag| OpenLoopLag::try_new(lag).expect("a lag within limits")),
             lags,
         };
-        (_, search) = published_search(&call);
+        let (answer, after) = published_search(&call);
+        start = searched_start(&search, call.open_loop, search.next, answer);
+        search = after;
         calls.push(call);
     }
     calls

@@ -11,7 +11,7 @@ use crate::{
     inputs::{Inputs, Random},
     project::{PitchAnswer, PitchState, pitch_search, read_lag},
     reader,
-    subframes::{Refusal, answer, pitch_state, subframe},
+    subframes::{Refusal, answer, searched_start, state, subframe},
     words::{EXCITATION, SUBFRAME, impulse_response, quiet},
 };
 
@@ -19,6 +19,7 @@ use crate::{
 pub const SAMPLES: [u16; 8] = [0, 4, 19, 40, 143, 144, 32768, u16::MAX];
 pub const FRACTIONS: [i16; 8] = [i16::MIN, -2, -1, 0, 1, 2, 5, i16::MAX];
 pub const NUMBERS: [u8; 7] = [0, 1, 2, 3, 4, 5, 255];
+pub const STARTS: [u16; 8] = [7, 0, 20, 134, 137, 19, 32768, u16::MAX];
 pub const INDEXES: [u8; 4] = [0, 31, 32, 255];
 
 /// The open-loop lags of a search: both in their range, or one of them outside.
@@ -37,7 +38,7 @@ pub fn functions() -> [Function; 4] {
             "read_lag_state",
             reads(4 * PAIRS, every_word, some_index),
             |call| call.ours(),
-            { "rule of 01, every fraction and lag" => call.expected() }
+            { "rule of 01, every fraction, lag and start" => call.expected() }
         ),
         Function {
             name: "search_state",
@@ -47,7 +48,7 @@ pub fn functions() -> [Function; 4] {
             name: "search_state",
             compare: || {
                 let asked = asked(PAIRS, every_word);
-                compared_searches("rule of 01, every fraction and lag", &asked)
+                compared_searches("rule of 01, every fraction, lag and start", &asked)
             },
         },
     ]
@@ -66,17 +67,19 @@ fn every_number(index: u64) -> Numbers {
         samples: SAMPLES[(index % 7 + rest) as usize % 8],
         fraction: FRACTIONS[(index % 5 + rest) as usize % 8],
         next: index as u8,
+        start: STARTS[(index % 3 + rest) as usize % STARTS.len()],
     };
     (state, (index >> 8) as u8, rest)
 }
 
-/// Every fraction and every lag, at some numbers.
+/// Every fraction, every lag and every start, at some numbers.
 fn every_word(index: u64) -> Numbers {
     let (word, rest) = (index as u16, index >> 16);
     let state = PitchState {
         samples: word,
         fraction: word as i16,
         next: NUMBERS[rest as usize % 7],
+        start: word.swap_bytes(),
     };
     (state, NUMBERS[rest as usize / 7 % 7], rest / PAIRS)
 }
@@ -153,22 +156,26 @@ impl Read {
     }
 
     fn expected(self) -> PitchAnswer {
-        let lag = read(self.state, self.subframe, self.index);
-        let after = lag.map(|lag| pitch_state(lag, self.subframe % 4 + 1));
-        answer(lag.map(|lag| (0, lag)), after.unwrap_or(self.state))
+        let read = read(self.state, self.subframe, self.index);
+        let after = read.map_or(self.state, |(_, after)| after);
+        answer(read.map(|(lag, _)| (0, lag)), after)
     }
 }
 
-/// A reading by 01's rule: number 2 for the subframe, then for the expected one.
-pub fn read(state: PitchState, received: u8, index: u8) -> Result<PitchLag, Refusal> {
+/// A reading by 01's rule, and the state after it: number 2 for the subframe, then for the expected
+/// one.
+pub fn read(state: PitchState, received: u8, index: u8) -> Result<(PitchLag, PitchState), Refusal> {
     subframe(received)?;
     subframe(state.next)?;
-    reader::read(reader::Reading {
+    let reading = reader::Reading {
         previous: previous(state),
         expected: state.next,
+        start: state.start,
         subframe: received,
         index,
-    })
+    };
+    let lag = reader::read(reading)?;
+    Ok((lag, reading.state_after(lag)))
 }
 
 /// No answer depends on the fraction.
@@ -279,35 +286,39 @@ impl Asked {
             }),
             None => searched(self.state, call, self.lags, self.subframe),
         };
-        let after = found.map(|found| pitch_state(found.lag, self.subframe % 4 + 1));
-        answer(
-            found.map(|found| (found.index, found.lag)),
-            after.unwrap_or(self.state),
-        )
+        let after = found.map_or(self.state, |(_, after)| after);
+        answer(found.map(|(found, _)| (found.index, found.lag)), after)
     }
 }
 
-/// A search by 01's rule on lists of the right lengths: number 2 for the subframe, then for the
-/// expected one, then the published search.
+/// A search by 01's rule on lists of the right lengths, and the state after it: number 2 for the
+/// subframe, then for the expected one, then the published search.
 pub fn searched(
-    state: PitchState,
+    given: PitchState,
     call: &Call,
     [first, second]: [u16; 2],
     received: u8,
-) -> Result<SearchedPitch, Refusal> {
+) -> Result<(SearchedPitch, PitchState), Refusal> {
     let lists = call.lists()?;
     let received = subframe(received)?;
-    let next = subframe(state.next)?;
+    let before = search(given)?;
     let open_loop = [OpenLoopLag::try_new(first)?, OpenLoopLag::try_new(second)?];
-    let mut search = Search {
-        previous: previous(state),
-        next,
-    };
-    Ok(search.search(
+    let mut search = before.clone();
+    let found = search.search(
         lists.excitation,
         lists.target,
         lists.impulse,
         open_loop,
         received,
-    )?)
+    )?;
+    let start = searched_start(&before, open_loop, received, found);
+    Ok((found, state(&search, start)))
+}
+
+/// The published search in a state, unless its expected subframe is none.
+pub fn search(given: PitchState) -> Result<Search, Refusal> {
+    Ok(Search {
+        previous: previous(given),
+        next: subframe(given.next)?,
+    })
 }

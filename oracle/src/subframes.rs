@@ -1,16 +1,24 @@
 //! The pitch stages' answers in the form of the library's, and what the published Rust has no
-//! counterpart for: subframes as numbers, and the refusals 1 and 2.
+//! counterpart for: subframes as numbers, the refusals 1 and 2, and the starts of windows that
+//! searchers and lag readers keep.
 
 use crate::{
     codec::mr74::{
         codebook,
         pitch::{
             DeltaIndexError, PitchLag,
-            search::{OpenLoopLag, Search, SearchError, Subframe},
+            search::{OpenLoopLag, Search, SearchError, SearchedPitch, Subframe},
         },
     },
     project::{ACCEPTED, LengthAnswer, PitchAnswer, PitchState},
 };
+
+/// How far before its centre a window starts, and how far behind its start it ends, in subframes 1
+/// and 3, then in 2 and 4.
+pub const ABSOLUTE_RADIUS: u16 = 3;
+const ABSOLUTE_SPAN: u16 = 6;
+pub const RELATIVE_RADIUS: u16 = 5;
+const RELATIVE_SPAN: u16 = 9;
 
 /// What is turned down, by its number in 01 or 02 and its detail.
 #[derive(Debug, Clone, Copy, PartialEq, Eq)]
@@ -103,24 +111,67 @@ pub fn subframe(number: u8) -> Result<Subframe, Refusal> {
 /// The first and the last whole lag that the search looks at, which the published search finds
 /// within its own text.
 pub fn window(search: &Search, open_loop: [OpenLoopLag; 2], subframe: Subframe) -> [usize; 2] {
-    let (start, span) = if subframe.absolute() {
-        (open_loop[subframe.half()].samples() - 3, 6)
+    let (centre, radius, span) = if subframe.absolute() {
+        let lag = open_loop[subframe.half()];
+        (lag.samples(), ABSOLUTE_RADIUS, ABSOLUTE_SPAN)
     } else {
-        (search.previous.samples() - 5, 9)
+        (search.previous.samples(), RELATIVE_RADIUS, RELATIVE_SPAN)
     };
-    let start = start.clamp(20, 143 - span);
+    let start = start(centre, radius, span);
     [start.into(), (start + span).into()]
 }
 
-pub fn state(search: &Search) -> PitchState {
-    pitch_state(search.previous, number(search.next))
+/// The start of the window in subframes 2 and 4, of a search or of a reading.
+pub fn relative_start(previous: PitchLag) -> u16 {
+    start(previous.samples(), RELATIVE_RADIUS, RELATIVE_SPAN)
 }
 
-pub fn pitch_state(previous: PitchLag, next: u8) -> PitchState {
+fn start(centre: u16, radius: u16, span: u16) -> u16 {
+    centre.saturating_sub(radius).clamp(20, 143 - span)
+}
+
+/// The start that a relative index counts from, as the published lag of that index shows it: whole
+/// lag - floor((index + 2) / 3) + 1.
+fn shown_start(lag: PitchLag, index: u8) -> u16 {
+    lag.samples() - u16::from(index).div_ceil(3) + 1
+}
+
+/// The start that a searcher keeps after this published answer: in subframes 2 and 4 the one that
+/// the answer shows, and there 01's window rule gives the same; in 1 and 3 the rule's.
+pub fn searched_start(
+    before: &Search,
+    open_loop: [OpenLoopLag; 2],
+    subframe: Subframe,
+    SearchedPitch { lag, index }: SearchedPitch,
+) -> u16 {
+    let [start, _] = window(before, open_loop, subframe).map(|lag| lag as u16);
+    if subframe.absolute() {
+        return start;
+    }
+    let shown = shown_start(lag, index);
+    assert_eq!(start, shown, "the start that is found here");
+    shown
+}
+
+/// The start that a lag reader keeps after this published lag of this index.
+pub fn read_start(subframe: u8, lag: PitchLag, index: u8) -> u16 {
+    match subframe {
+        2 | 4 => shown_start(lag, index),
+        _ => 0,
+    }
+}
+
+/// The library's state of a published search, and the start beside it.
+pub fn state(search: &Search, start: u16) -> PitchState {
+    pitch_state(search.previous, number(search.next), start)
+}
+
+pub fn pitch_state(previous: PitchLag, next: u8, start: u16) -> PitchState {
     PitchState {
         samples: previous.samples(),
         fraction: previous.fraction().thirds(),
         next,
+        start,
     }
 }
 
@@ -140,5 +191,6 @@ pub fn answer(answer: Result<(u8, PitchLag), Refusal>, after: PitchState) -> Pit
         previous_samples: after.samples,
         previous_fraction: after.fraction,
         next: after.next,
+        start: after.start,
     }
 }

@@ -39,7 +39,7 @@ impl State {
         lag
     }
 
-    /// The pitch of a subframe, sent and read back.
+    /// The pitch of a subframe, sent and read back, each with the start of its window.
     fn pitch(
         &mut self,
         excitation: &[i16; EXCITATION_SAMPLES],
@@ -54,8 +54,10 @@ impl State {
             .search(excitation, target, impulse, open_loop, subframe)?;
         let thirds = sent.lag.fraction().thirds();
         println!("pitch {} {} {thirds}", sent.index, sent.lag.samples());
+        println!("start {}", self.searcher.start);
         let read = self.reader.read(subframe, sent.index)?;
         println!("lag {} {}", read.samples(), read.fraction().thirds());
+        println!("start {}", self.reader.start);
         Ok(sent.lag)
     }
 }

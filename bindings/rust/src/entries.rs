@@ -20,10 +20,11 @@ macro_rules! answers {
 answers! {
     LengthAnswer { number: u8, magnitude: u64, }
     OpenLoopAnswer { number: u8, magnitude: u64, lag: u16, }
-    /// A searcher or a lag reader: the lag before, its thirds, and the subframe expected next. No
-    /// answer depends on the thirds. A `next` outside 1 to 4 is refused by 2, after the call's own
-    /// subframe, and a refusal hands back the numbers that were given, whatever they are.
-    PitchState { samples: u16, fraction: i16, next: u8, }
+    /// A searcher or a lag reader: the lag before, its thirds, the subframe expected next, and the
+    /// start of the last window. No answer depends on the thirds or on the start. A `next` outside
+    /// 1 to 4 is refused by 2, after the call's own subframe, and a refusal hands back the numbers
+    /// that were given, whatever they are.
+    PitchState { samples: u16, fraction: i16, next: u8, start: u16, }
     /// The index and the lag, then the searcher or reader after the call.
     PitchAnswer {
         number: u8,
@@ -34,6 +35,7 @@ answers! {
         previous_samples: u16,
         previous_fraction: i16,
         next: u8,
+        start: u16,
     }
     PulsesAnswer { number: u8, magnitude: u64, positions: u16, signs: u16, }
     PlacesAnswer {
@@ -86,9 +88,11 @@ answers! {
         searcher_samples: u16,
         searcher_fraction: i16,
         searcher_next: u8,
+        searcher_start: u16,
         reader_samples: u16,
         reader_fraction: i16,
         reader_next: u8,
+        reader_start: u16,
     }
 }
 
@@ -113,6 +117,7 @@ impl PitchAnswer {
             samples: self.previous_samples,
             fraction: self.previous_fraction,
             next: self.next,
+            start: self.start,
         }
     }
 }

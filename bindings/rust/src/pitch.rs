@@ -52,6 +52,7 @@ impl PitchLag {
         LagReader {
             previous,
             next: Subframe::Two,
+            start: 0,
         }
         .read(Subframe::Two, index)
     }
@@ -77,12 +78,19 @@ impl PitchLag {
 pub struct LagReader {
     pub previous: PitchLag,
     pub next: Subframe,
+    /// The first whole lag of the window that the last reading used, if it was one of subframe two
+    /// or four; 0 when fresh and after one and three. No reading depends on it.
+    pub start: u16,
 }
 
 impl Default for LagReader {
     fn default() -> Self {
-        let (previous, next) = kept(entries::fresh_pitch());
-        Self { previous, next }
+        let (previous, next, start) = kept(entries::fresh_pitch());
+        Self {
+            previous,
+            next,
+            start,
+        }
     }
 }
 
@@ -93,27 +101,29 @@ impl LagReader {
 
     /// Refuses by 4 a subframe that is not the one expected, then by 5 a relative index above 31.
     pub fn read(&mut self, subframe: Subframe, index: u8) -> Result<PitchLag, DeltaIndexError> {
-        let reader = state(self.previous, self.next);
+        let reader = state(self.previous, self.next, self.start);
         let answer = entries::read_lag(reader, subframe.number(), index);
         DeltaIndexError::check(answer.number, answer.magnitude)?;
-        (self.previous, self.next) = kept(answer.state());
+        (self.previous, self.next, self.start) = kept(answer.state());
         Ok(PitchLag::of(answer.samples, answer.fraction))
     }
 }
 
 /// A searcher or a reader, as it crosses to the library.
-fn state(previous: PitchLag, next: Subframe) -> PitchState {
+fn state(previous: PitchLag, next: Subframe, start: u16) -> PitchState {
     PitchState {
         samples: previous.samples,
         fraction: previous.fraction.thirds(),
         next: next.number(),
+        start,
     }
 }
 
 /// What a searcher or a reader keeps.
-fn kept(state: PitchState) -> (PitchLag, Subframe) {
+fn kept(state: PitchState) -> (PitchLag, Subframe, u16) {
     (
         PitchLag::of(state.samples, state.fraction),
         Subframe::of(state.next),
+        state.start,
     )
 }

@@ -51,6 +51,7 @@ fn expected_subframes_are_refused_by_2_and_numbers_come_back() {
         samples: 7,
         fraction: 5,
         next,
+        start: u16::MAX,
     };
     for next in [0, 5, 255] {
         let read = entries::read_lag(state(next), 4, 0);
@@ -74,6 +75,7 @@ fn steps_write_no_words_but_those_of_a_filtering_record() {
         samples: 7,
         fraction: 5,
         next: 9,
+        start: 7,
     };
     let step = |feed: &[u8]| {
         let mut words = [7; 160];
@@ -113,6 +115,7 @@ fn subframes_out_of_turn_are_refused_by_4() {
     assert_eq!(find(Subframe::One), (Ok(189), Subframe::Two));
     assert_eq!(find(Subframe::Two), (Ok(27), Subframe::Three));
     assert_eq!(find(Subframe::Two), (Err(refusal(4, 3)), Subframe::Three));
+    assert_eq!(searcher.start, 77);
     let mut reader = LagReader::default();
     assert_eq!(reader.read(Subframe::Four, 0), Err(refusal(4, 1)));
     assert_eq!(reader, LagReader::default());

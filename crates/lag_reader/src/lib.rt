@@ -4,18 +4,20 @@
 ghost use Rattle.std.specs.Prelude.{◌≡◌};
 ghost use Rattle.refusal.specs.Refused.{values, turned_down};
 ghost use Rattle.pitch.specs.Kinds.{following};
-ghost use Rattle.lag_reader.specs.Readers.{fresh_reader, told_reading, read};
+ghost use Rattle.pitch.specs.Windows.{handset};
+ghost use Rattle.lag_reader.specs.Readers.{fresh_reader, told_reading, start_used, read};
 
 use pitch::{PitchLag, Subframe};
 use refusal::Refusal;
 
 const MAX_DELTA_INDEX: u8 = 31;
 
-// The lag reader: the lag that it read last, and the subframe that it expects.
+// The lag reader: the lag that it read last, the subframe that it expects, and the start of its last window: 0 where that reading had none, or there was none.
 #[derive(Clone, Copy)]
 pub struct Reader {
     pub previous: PitchLag,
     pub next: Subframe,
+    pub start: u16,
 }
 
 // What `read` answers.
@@ -39,6 +41,7 @@ impl Reader {
         Reader {
             previous,
             next: Subframe::One,
+            start: 0,
         }
     }
 
@@ -64,7 +67,9 @@ impl Reader {
         if !due.absolute() & (MAX_DELTA_INDEX < index) {
             return self.refused(Refusal::RelativeIndex(index));
         }
-        self.taken(PitchLag::decoded(due, index, self.previous.samples))
+        let previous = self.previous.samples;
+        let start = start_used(due, previous);
+        self.taken(PitchLag::decoded(due, index, previous), start)
     }
 
     fn refused(self, refusal: Refusal) -> ReaderStep
@@ -76,18 +81,29 @@ impl Reader {
         }
     }
 
-    fn taken(self, lag: PitchLag) -> ReaderStep
-        ensures { (told_reading result.reading ≡ values lag) × (result.reader ≡ record { previous = lag; next = following self.next }) }
+    fn taken(self, lag: PitchLag, start: u16) -> ReaderStep
+        ensures { (told_reading result.reading ≡ values lag) × (result.reader ≡ record { previous = lag; next = following self.next; start = start }) }
     {
         let due = self.next;
         let next = due.next();
         let reader = Reader {
             previous: lag,
             next,
+            start,
         };
         ReaderStep {
             reading: Reading::Lag(lag),
             reader,
         }
     }
+}
+
+// The start of the window that a reading uses, after the whole lag `previous`: subframes one and three use none.
+fn start_used(subframe: Subframe, previous: u16) -> u16
+    ensures { result ≡ start_used handset subframe previous }
+{
+    if subframe.absolute() {
+        return 0;
+    }
+    pitch::relative_start(previous)
 }

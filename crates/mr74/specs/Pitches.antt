@@ -20,6 +20,7 @@ accepted_pitch index l after =
       previous_samples = after.samples;
       previous_fraction = after.fraction;
       next = after.next;
+      start = after.start;
     }
 
 -- a refusal's number and detail and zeros, then the state after
@@ -34,6 +35,7 @@ refused_pitch n d after =
       previous_samples = after.samples;
       previous_fraction = after.fraction;
       next = after.next;
+      start = after.start;
     }
 
 -- an answer as 01 gives it, and the state after it, as the struct

@@ -29,9 +29,11 @@ step_answer f searcher reader =
       searcher_samples = searcher.samples;
       searcher_fraction = searcher.fraction;
       searcher_next = searcher.next;
+      searcher_start = searcher.start;
       reader_samples = reader.samples;
       reader_fraction = reader.fraction;
       reader_next = reader.next;
+      reader_start = reader.start;
     }
 
 -- ---- searcher and reader in numbers

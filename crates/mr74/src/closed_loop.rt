@@ -27,6 +27,7 @@ pub struct PitchAnswer {
     pub previous_samples: u16,
     pub previous_fraction: i16,
     pub next: u8,
+    pub start: u16,
 }
 
 #[unsafe(no_mangle)]
@@ -112,6 +113,7 @@ fn accepted(index: u8, lag: PitchLag, after: PitchState) -> PitchAnswer
         previous_samples: after.samples,
         previous_fraction: after.fraction,
         next: after.next,
+        start: after.start,
     }
 }
 
@@ -128,5 +130,6 @@ fn refused(refusal: Refusal, after: PitchState) -> PitchAnswer
         previous_samples: after.samples,
         previous_fraction: after.fraction,
         next: after.next,
+        start: after.start,
     }
 }

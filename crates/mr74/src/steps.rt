@@ -29,9 +29,11 @@ pub struct StepAnswer {
     pub searcher_samples: u16,
     pub searcher_fraction: i16,
     pub searcher_next: u8,
+    pub searcher_start: u16,
     pub reader_samples: u16,
     pub reader_fraction: i16,
     pub reader_next: u8,
+    pub reader_start: u16,
 }
 
 #[unsafe(no_mangle)]
@@ -152,8 +154,10 @@ fn step_answer(fields: Fields, searcher: PitchState, reader: PitchState) -> Step
         searcher_samples: searcher.samples,
         searcher_fraction: searcher.fraction,
         searcher_next: searcher.next,
+        searcher_start: searcher.start,
         reader_samples: reader.samples,
         reader_fraction: reader.fraction,
         reader_next: reader.next,
+        reader_start: reader.start,
     }
 }

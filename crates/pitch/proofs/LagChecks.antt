@@ -1,4 +1,4 @@
--- What the two answers of `OpenLoopLag::try_new` tell of its check.
+-- What the two answers to an open-loop lag tell of its check, for every upper lag.
 use mathlib.Core.Path.{◌≡◌, refl, sym, ap}
 use mathlib.Core.Bool.{Bool, true, false}
 use Prim.Native.Nat.{ℕ}
@@ -10,19 +10,19 @@ use Rattle.refusal.specs.declared.Refusal.{Refusal}
 use Rattle.pitch.specs.declared.OpenLoopLag.{OpenLoopLag}
 use Rattle.pitch.specs.declared.OpenLoop.{OpenLoop}
 use Rattle.pitch.specs.declared.OpenLoop.TheVariants.{Lag, Refused}
-use Rattle.pitch.specs.Kinds.{told_lag, try_lag}
+use Rattle.pitch.specs.Kinds.{told_lag, try_within}
 
-module _ (n : ℕ) {o : OpenLoop} (e : told_lag o ≡ try_lag n) where
-  pub lag_taken : {l : OpenLoopLag} → o ≡ Lag l → (within 20 143 n ≡ true) × (l.0 ≡ n)
-  lag_taken {l} c = go (within 20 143 n) refl
+module _ (upper n : ℕ) {o : OpenLoop} (e : told_lag o ≡ try_within upper n) where
+  pub lag_taken : {l : OpenLoopLag} → o ≡ Lag l → (within 20 upper n ≡ true) × (l.0 ≡ n)
+  lag_taken {l} c = go (within 20 upper n) refl
     where
-      go : (t : Bool) → within 20 143 n ≡ t → (within 20 143 n ≡ true) × (l.0 ≡ n)
+      go : (t : Bool) → within 20 upper n ≡ t → (within 20 upper n ≡ true) × (l.0 ≡ n)
       go true q = (q, ap (value_or 0) (rw (c, q) at e))
       go false q = contradiction (sym (ap accepts (rw (c, q) at e)))
 
-  pub lag_refused : {r : Refusal} → o ≡ Refused r → within 20 143 n ≡ false
-  lag_refused {r} c = go (within 20 143 n) refl
+  pub lag_refused : {r : Refusal} → o ≡ Refused r → within 20 upper n ≡ false
+  lag_refused {r} c = go (within 20 upper n) refl
     where
-      go : (t : Bool) → within 20 143 n ≡ t → within 20 143 n ≡ false
+      go : (t : Bool) → within 20 upper n ≡ t → within 20 upper n ≡ false
       go true q = contradiction (ap accepts (rw (c, q) at e))
       go false q = q

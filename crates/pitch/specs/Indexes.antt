@@ -5,7 +5,7 @@ use Rattle.pitch.specs.declared.Fraction.TheVariants.{MinusThird, Zero, PlusThir
 use Rattle.pitch.specs.declared.PitchLag.{PitchLag}
 use Rattle.pitch.specs.declared.Subframe.{Subframe}
 use Rattle.pitch.specs.Kinds.{from_zero, absolute}
-use Rattle.pitch.specs.Windows.{handset, relative_start}
+use Rattle.pitch.specs.Windows.{relative_start}
 
 -- '3 × lag − 58 + fraction up to lag 85, else lag + 112'
 abbrev pub absolute_index : PitchLag → ℕ
@@ -47,6 +47,6 @@ relative_lag start index =
 abbrev pub index_of : Subframe → ℕ → PitchLag → ℕ
 index_of s start l = cond (absolute s) (absolute_index l) (relative_index start l)
 
--- the lag of an index after the whole lag `previous`
-abbrev pub lag_of : Subframe → ℕ → ℕ → PitchLag
-lag_of s previous index = cond (absolute s) (absolute_lag index) (relative_lag (relative_start handset previous) index)
+-- the lag of an index after the whole lag `previous`, in windows up to the upper lag
+abbrev pub lag_of : ℕ → Subframe → ℕ → ℕ → PitchLag
+lag_of upper s previous index = cond (absolute s) (absolute_lag index) (relative_lag (relative_start upper previous) index)

@@ -9,6 +9,7 @@ use Rattle.pitch.specs.declared.Subframe.TheVariants.{One, Two, Three, Four}
 use Rattle.pitch.specs.declared.PitchLag.{PitchLag}
 use Rattle.pitch.specs.declared.OpenLoop.{OpenLoop}
 use Rattle.pitch.specs.declared.OpenLoop.TheVariants.{Lag, Refused}
+use Rattle.pitch.specs.Windows.{handset}
 
 -- 01: 'Pitch fractions are −1, 0 or 1 thirds of a sample'
 abbrev pub thirds : Fraction → ℤ
@@ -52,6 +53,10 @@ abbrev pub told_lag : OpenLoop → Told ℕ
 told_lag (Lag l) = values l.0
 told_lag (Refused r) = turned_down r
 
+-- 01, number 3, with an upper lag in place of 143
+abbrev pub try_within : ℕ → ℕ → Told ℕ
+try_within upper n = checked (open_loop_lag upper n ∷ []) refused (values n)
+
 -- 01, number 3: 'outside 20 to 143'
 abbrev pub try_lag : ℕ → Told ℕ
-try_lag n = checked (open_loop_lag n ∷ []) refused (values n)
+try_lag n = try_within handset n

@@ -183,7 +183,7 @@ impl PitchLag {
 
     // The lag of an index in a subframe, after the whole lag `previous`.
     pub fn decoded(subframe: Subframe, index: u8, previous: u16) -> Self
-        ensures { result ≡ lag_of subframe previous index }
+        ensures { result ≡ lag_of handset subframe previous index }
     {
         if subframe.absolute() {
             return PitchLag::from_absolute(index);

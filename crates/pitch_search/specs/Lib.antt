@@ -1,3 +1,4 @@
--- The closed-loop lag, TS 26.073 Pitch_fr at 7.4 kbit/s: what the contracts of `pitch_search` cite.
+-- The closed-loop lag, TS 26.073 Pitch_fr at 7.4 kbit/s: what the contracts of `pitch_search` cite, and the statement on the kept start.
 pub mod Searches
+pub mod Statement
 pub mod Opens

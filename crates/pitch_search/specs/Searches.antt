@@ -5,6 +5,7 @@ use Rattle.refusal.specs.Checks.{Check, Outcome, unless_refused, length_is, know
 use Rattle.pitch.specs.declared.Subframe.TheVariants.{One}
 use Rattle.pitch.specs.declared.PitchLag.{PitchLag}
 use Rattle.pitch.specs.Kinds.{subframe_number, following, fresh_lag}
+use Rattle.pitch.specs.Windows.{handset}
 use Rattle.pitch.specs.Indexes.{index_of}
 use Rattle.pitch_window.specs.Windows.{start_of, pitch_in}
 use Rattle.pitch_search.specs.declared.SearchedPitch.{SearchedPitch}
@@ -12,33 +13,33 @@ use Rattle.pitch_search.specs.declared.Found.{Found}
 use Rattle.pitch_search.specs.declared.Found.TheVariants.{Pitch, Refused}
 use Rattle.pitch_search.specs.declared.Search.{Search}
 
--- 'Fresh searcher and fresh reader: previous lag 40, expecting 1'
+-- 'Fresh searcher and fresh reader: previous lag 40, expecting 1'; 02: the start of its window is '0 when fresh or reset'
 abbrev pub fresh_search : Search
-fresh_search = record { previous = fresh_lag; next = One }
+fresh_search = record { previous = fresh_lag; next = One; start = 0 }
 
 -- an answer as 01 gives it
 abbrev pub told : Found → Told SearchedPitch
 told (Pitch p) = values p
 told (Refused r) = turned_down r
 
--- what is answered and kept for a chosen lag
+-- what is answered and kept for a lag that is chosen in a window from start; 02 keeps that start too
 abbrev pub found_at : Search → ℕ → PitchLag → Outcome SearchedPitch Search
 found_at s start l =
     record {
       answer = values (record { lag = l; index = index_of s.next start l });
-      after = record { previous = l; next = following s.next };
+      after = record { previous = l; next = following s.next; start = start };
     }
 
 -- a search that the checks let through
 abbrev pub accepted : Search → List ℤ → List ℤ → List ℤ → ℕ → ℕ → Outcome SearchedPitch Search
 accepted s exc target hs first second =
-    let start = start_of s.next s.previous.samples first second in
+    let start = start_of handset s.next s.previous.samples first second in
     found_at s start (pitch_in s.next start exc target hs)
 
 -- 01, numbers 1 to 4 in checking order
 abbrev pub search_checks : Search → List ℤ → List ℤ → List ℤ → ℕ → ℕ → ℕ → List Check
 search_checks s exc target hs first second n =
-    length_is 194 exc ∷ length_is 40 target ∷ length_is 40 hs ∷ known_subframe n ∷ open_loop_lag first ∷ open_loop_lag second
+    length_is 194 exc ∷ length_is 40 target ∷ length_is 40 hs ∷ known_subframe n ∷ open_loop_lag handset first ∷ open_loop_lag handset second
     ∷ in_order (subframe_number s.next) n ∷ []
 
 -- Pitch_fr behind 01's checks: the answer, and the searcher after it

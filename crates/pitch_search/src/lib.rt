@@ -26,11 +26,12 @@ pub enum Found {
     Refused(Refusal),
 }
 
-// The searcher: the lag that it sent last, and the subframe that it expects.
+// The searcher: the lag that it sent last, the subframe that it expects, and the start of its last window, 0 before the first.
 #[derive(Clone, Copy)]
 pub struct Search {
     pub previous: PitchLag,
     pub next: Subframe,
+    pub start: u16,
 }
 
 #[derive(Clone, Copy)]
@@ -47,6 +48,7 @@ impl Search {
         Search {
             previous,
             next: Subframe::One,
+            start: 0,
         }
     }
 
@@ -122,17 +124,18 @@ impl Search {
             due, previous, first, second, excitation, target, impulse,
         );
         let index = lag.index(due, start) as u8;
-        self.sent(PitchLag::decoded(due, index, previous), index)
+        self.sent(PitchLag::decoded(due, index, previous), index, start)
     }
 
-    fn sent(self, lag: PitchLag, index: u8) -> SearchStep
-        ensures { (told result.found ≡ values (record { lag = lag; index = index })) × (result.searcher ≡ record { previous = lag; next = following self.next }) }
+    fn sent(self, lag: PitchLag, index: u8, start: u16) -> SearchStep
+        ensures { (told result.found ≡ values (record { lag = lag; index = index })) × (result.searcher ≡ record { previous = lag; next = following self.next; start = start }) }
     {
         let due = self.next;
         let next = due.next();
         let searcher = Search {
             previous: lag,
             next,
+            start,
         };
         SearchStep {
             found: Found::Pitch(SearchedPitch { lag, index }),

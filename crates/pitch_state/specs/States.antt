@@ -1,4 +1,4 @@
--- A searcher or a lag reader as numbers: the previous whole lag, its fraction in thirds, the subframe expected next.
+-- A searcher or a lag reader as numbers: the previous whole lag, its fraction in thirds, the subframe expected next, the start of its last window.
 use Rattle.std.specs.Prelude.{ℕ, zero, suc}
 use Rattle.pitch.specs.declared.Fraction.TheVariants.{Zero}
 use Rattle.pitch.specs.declared.Subframe.{Subframe}
@@ -10,19 +10,20 @@ use Rattle.lag_reader.specs.Readers.{fresh_reader}
 use Rattle.pitch_search.specs.declared.Search.{Search}
 use Rattle.pitch_state.specs.declared.PitchState.{PitchState}
 
--- the numbers of a lag and of the subframe expected after it
-abbrev pub in_numbers : PitchLag → Subframe → PitchState
-in_numbers previous next = record { samples = previous.samples; fraction = thirds previous.fraction; next = subframe_number next }
+-- the numbers of a lag, of the subframe expected after it, and of the window's start
+abbrev pub in_numbers : PitchLag → Subframe → ℕ → PitchState
+in_numbers previous next start =
+    record { samples = previous.samples; fraction = thirds previous.fraction; next = subframe_number next; start = start }
 
 -- so of a searcher
 abbrev pub searcher_numbers : Search → PitchState
-searcher_numbers s = in_numbers s.previous s.next
+searcher_numbers s = in_numbers s.previous s.next s.start
 
 -- and of a reader
 abbrev pub reader_numbers : Reader → PitchState
-reader_numbers r = in_numbers r.previous r.next
+reader_numbers r = in_numbers r.previous r.next r.start
 
--- 01: 'Fresh searcher and fresh reader: previous lag 40, expecting 1'
+-- 01: 'Fresh searcher and fresh reader: previous lag 40, expecting 1', and start 0 (02)
 abbrev pub fresh_state : PitchState
 fresh_state = reader_numbers fresh_reader
 
@@ -38,10 +39,10 @@ subframe_of (suc (suc (suc (suc n)))) = Four
 abbrev pub previous_of : PitchState → PitchLag
 previous_of s = record { samples = s.samples; fraction = Zero }
 
--- the searcher
+-- the searcher; no answer depends on the start either
 abbrev pub searcher_of : PitchState → Search
-searcher_of s = record { previous = previous_of s; next = subframe_of s.next }
+searcher_of s = record { previous = previous_of s; next = subframe_of s.next; start = s.start }
 
 -- and the reader
 abbrev pub reader_of : PitchState → Reader
-reader_of s = record { previous = previous_of s; next = subframe_of s.next }
+reader_of s = record { previous = previous_of s; next = subframe_of s.next; start = s.start }

@@ -14,13 +14,14 @@ use pitch::{Fraction, PitchLag, Subframe};
 use pitch_search::{Found, Search};
 use refusal::Refusal;
 
-// The previous whole lag, its fraction in thirds, the subframe expected next.
+// The previous whole lag, its fraction in thirds, the subframe expected next, the start of the last window.
 #[repr(C)]
 #[derive(Clone, Copy)]
 pub struct PitchState {
     pub samples: u16,
     pub fraction: i16,
     pub next: u8,
+    pub start: u16,
 }
 
 pub fn fresh() -> PitchState
@@ -30,6 +31,7 @@ pub fn fresh() -> PitchState
         samples: 40,
         fraction: 0,
         next: 1,
+        start: 0,
     }
 }
 
@@ -38,7 +40,7 @@ pub fn searcher_numbers(searcher: Search) -> PitchState
 {
     let previous = searcher.previous;
     let next = searcher.next;
-    in_numbers(previous, next)
+    in_numbers(previous, next, searcher.start)
 }
 
 pub fn reader_numbers(reader: Reader) -> PitchState
@@ -46,17 +48,18 @@ pub fn reader_numbers(reader: Reader) -> PitchState
 {
     let previous = reader.previous;
     let next = reader.next;
-    in_numbers(previous, next)
+    in_numbers(previous, next, reader.start)
 }
 
-fn in_numbers(previous: PitchLag, next: Subframe) -> PitchState
-    ensures { result ≡ in_numbers previous next }
+fn in_numbers(previous: PitchLag, next: Subframe, start: u16) -> PitchState
+    ensures { result ≡ in_numbers previous next start }
 {
     let fraction = previous.fraction;
     PitchState {
         samples: previous.samples,
         fraction: fraction.thirds(),
         next: next.number(),
+        start,
     }
 }
 
@@ -69,6 +72,7 @@ pub fn searcher_of(state: PitchState) -> Search
             fraction: Fraction::Zero,
         },
         next: subframe_of(state.next),
+        start: state.start,
     }
 }
 
@@ -81,6 +85,7 @@ pub fn reader_of(state: PitchState) -> Reader
             fraction: Fraction::Zero,
         },
         next: subframe_of(state.next),
+        start: state.start,
     }
 }
 

@@ -4,16 +4,16 @@ use Rattle.pitch.specs.declared.Subframe.{Subframe}
 use Rattle.pitch.specs.declared.Subframe.TheVariants.{One, Two, Three, Four}
 use Rattle.pitch.specs.declared.PitchLag.{PitchLag}
 use Rattle.pitch.specs.Kinds.{absolute}
-use Rattle.pitch.specs.Windows.{handset, absolute_start, relative_start}
+use Rattle.pitch.specs.Windows.{absolute_start, relative_start}
 use Rattle.pitch_correlation.specs.Correlations.{Norm_Corr}
 use Rattle.pitch_choice.specs.Choices.{chosen}
 
--- the window's start: 'the centre is the first open-loop lag for subframe 1, the second for 3', the previous whole lag for 2 and 4
-abbrev pub start_of : Subframe → ℕ → ℕ → ℕ → ℕ
-start_of One previous first second = absolute_start handset first
-start_of Two previous first second = relative_start handset previous
-start_of Three previous first second = absolute_start handset second
-start_of Four previous first second = relative_start handset previous
+-- the window's start under an upper lag: 'the centre is the first open-loop lag for subframe 1, the second for 3', the previous whole lag for 2 and 4
+abbrev pub start_of : ℕ → Subframe → ℕ → ℕ → ℕ → ℕ
+start_of upper One previous first second = absolute_start upper first
+start_of upper Two previous first second = relative_start upper previous
+start_of upper Three previous first second = absolute_start upper second
+start_of upper Four previous first second = relative_start upper previous
 
 -- how many lags a window has, less one
 abbrev pub span_of : Subframe → ℕ

@@ -2,6 +2,7 @@
 #![tactic(auto)]
 
 ghost use Rattle.std.specs.Prelude.{◌≡◌, ◌+◌, ◌≤◌};
+ghost use Rattle.pitch.specs.Windows.{handset};
 ghost use Rattle.pitch_window.specs.Windows.{start_of, span_of, pitch_in};
 
 use pitch::{PitchLag, Subframe};
@@ -14,7 +15,7 @@ const RELATIVE_SPAN: u16 = 9;
 
 // The window's start; first and second are the open-loop lags of the two half frames.
 pub fn window_start(subframe: Subframe, previous: u16, first: u16, second: u16) -> u16
-    ensures { result ≡ start_of subframe previous first second }
+    ensures { result ≡ start_of handset subframe previous first second }
 {
     match subframe {
         Subframe::One => pitch::absolute_start(first),
@@ -34,7 +35,7 @@ pub fn chosen_lag(
     target: &[i16],
     impulse: &[i16],
 ) -> PitchLag
-    ensures { result ≡ pitch_in subframe (start_of subframe previous first second) excitation.now target.now impulse.now }
+    ensures { result ≡ pitch_in subframe (start_of handset subframe previous first second) excitation.now target.now impulse.now }
 {
     let start = window_start(subframe, previous, first, second);
     pitch_in(subframe, start, excitation, target, impulse)

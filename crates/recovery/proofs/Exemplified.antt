@@ -8,11 +8,15 @@ use Rattle.lag_reader.specs.Opens.{reader_opens}
 use Rattle.pitch_search.specs.Opens.{search_opens}
 use Rattle.recovery.specs.Runs.{Step, fresh_state, run}
 use Rattle.recovery.specs.Statement.{none, WithinWidth, Stray, Each}
-use Rattle.recovery.specs.Example.{example, happens, Example}
+use Rattle.recovery.specs.Example.{example, happens, starts, Example}
 
 events : map (λ (s : Step). s.event) (run fresh_state example) ≡ happens
 unfolding run example happens search_opens reader_opens
 events = refl
+
+window_starts : map (λ (s : Step). (s.after.searcher.start, s.after.reader.start)) (run fresh_state example) ≡ starts
+unfolding run example starts search_opens reader_opens
+window_starts = refl
 
 widths : Each WithinWidth none (run fresh_state example)
 unfolding run example search_opens reader_opens
@@ -24,4 +28,4 @@ strays = (tt, (inl (eqb-false 3 2 refl), (inr (inl refl, lit< tt), (tt, (tt, (tt
 
 pub exemplified : Example
 unfolding Example
-exemplified = (events, widths, strays)
+exemplified = (events, window_starts, widths, strays)

@@ -55,9 +55,15 @@ happens =
     ∷ at_place (record { subframe = 2; sent = record { lag = lag_85; index = 27 }; arrived = 27; reading = values (record { samples = 28; fraction = PlusThird }) })
     ∷ []
 
+-- the start of the searcher's window and of the reader's, after each entry: the damaged 5 is read in the searcher's window, and behind the damaged 0 the
+-- reader's is another one
+unfoldable pub starts : List (ℕ × ℕ)
+starts = (77, 0) ∷ (77, 0) ∷ (77, 0) ∷ (77, 77) ∷ (77, 77) ∷ (77, 0) ∷ (77, 77) ∷ (0, 0) ∷ (77, 0) ∷ (77, 20) ∷ []
+
 -- the example happens so, and meets both hypotheses
 unfoldable pub Example : Type 0
 Example =
     (map (λ (s : Step). s.event) (run fresh_state example) ≡ happens)
+    × (map (λ (s : Step). (s.after.searcher.start, s.after.reader.start)) (run fresh_state example) ≡ starts)
     × Each WithinWidth none (run fresh_state example)
     × Each Stray none (run fresh_state example)

@@ -1,4 +1,5 @@
--- What a lag reader recovers from the indexes of a pitch search: the list, its run, the statement, and an example.
+-- What a lag reader recovers from the indexes of a pitch search: the list, its run, the statement, that of the windows' starts, and an example.
 pub mod Runs
 pub mod Statement
+pub mod Windows
 pub mod Example

@@ -39,9 +39,9 @@ known_subframe n = record { passes = within 1 4 n; number = 2; detail = pos n }
 abbrev pub known_limit : ℕ → Check
 known_limit n = record { passes = leb n 1; number = 2; detail = pos n }
 
--- number 3: an open-loop lag is 20 to 143
-abbrev pub open_loop_lag : ℕ → Check
-open_loop_lag n = record { passes = within 20 143 n; number = 3; detail = pos n }
+-- number 3: an open-loop lag is 20 to the upper lag
+abbrev pub open_loop_lag : ℕ → ℕ → Check
+open_loop_lag upper n = record { passes = within 20 upper n; number = 3; detail = pos n }
 
 -- number 4: the subframe n is the expected one
 abbrev pub in_order : ℕ → ℕ → Check

@@ -50,7 +50,7 @@ pub fn mixed_of(random: &mut Random, stages: &Stages, kind: u8) -> Record {
             bytes(&chain.words(&stages.detector.history_q0))
         }
         2 => {
-            let mut body = bodies::pitch(&Chain::at(source, &[]).call(&stages.search));
+            let mut body = bodies::pitch(&Chain::at(source, &[]).call(&stages.searcher.search));
             add_pitch_faults(random, &mut body, faults);
             body
         }
@@ -152,7 +152,7 @@ pub fn extreme_record(random: &mut Random, stages: &Stages) -> Record {
             target: extreme::<SUBFRAME>(random).to_vec(),
             impulse: extreme::<SUBFRAME>(random).to_vec(),
             open_loop: [(); 2].map(|()| 20 + random.below(124) as u16),
-            subframe: number(stages.search.next),
+            subframe: number(stages.searcher.search.next),
         }),
         5 => [50, 11, 11, 10, 10]
             .into_iter()

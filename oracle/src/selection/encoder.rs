@@ -144,7 +144,7 @@ impl<'a> Encoder<'a> {
             }
             Answer::Pitch(pitch) => {
                 self.index = pitch.index;
-                let lag = usize::from(stages.search.previous.samples());
+                let lag = usize::from(stages.searcher.search.previous.samples());
                 let past = self.excitation[HISTORY - lag..][..SUBFRAME].try_into();
                 self.adaptive = convolve(past.expect("a subframe"), &self.impulse);
             }
@@ -216,7 +216,7 @@ impl<'a> Encoder<'a> {
             3 => bodies::pulses(&pulses::Call {
                 target: self.pulse_target(),
                 impulse: self.impulse,
-                lag: stages.search.previous.samples(),
+                lag: stages.searcher.search.previous.samples(),
                 gain: random.below(13018) as i16,
             }),
             4 => {

@@ -4,35 +4,38 @@
 use super::answers::{Answer, Answered};
 use crate::{
     calls,
-    codec::mr74::pitch::{Fraction, PitchLag, open_loop::Detector, search::Search},
+    codec::mr74::pitch::{Fraction, PitchLag, open_loop::Detector},
     feed::{BODIES, words},
     filtering,
     gain::{self, SignedRefusal},
+    project::PitchState,
     pulses,
     reader::{Reading, read},
-    search,
+    search::Searcher,
+    subframes::{pitch_state, read_start},
 };
 
 /// What is kept from record to record.
 #[derive(Clone)]
 pub struct Stages {
     pub detector: Detector,
-    pub search: Search,
+    pub searcher: Searcher,
     pub reader: LagReader,
 }
 
-/// The lag that was read last, and the subframe that is expected next.
+/// The lag that was read last, the subframe that is expected next, and the start that is kept.
 #[derive(Clone, Copy)]
 pub struct LagReader {
     pub previous: PitchLag,
     pub next: u8,
+    pub start: u16,
 }
 
 impl Stages {
     pub fn fresh() -> Self {
         Self {
             detector: Detector::default(),
-            search: Search::default(),
+            searcher: Searcher::default(),
             reader: LagReader::fresh(),
         }
     }
@@ -50,9 +53,7 @@ impl Stages {
             }
             2 => {
                 let call = calls::recorded(body);
-                let before = self.search.clone();
-                let searched = search::published(&before, &mut self.search, &call)?;
-                Ok(Answer::Pitch(searched.answer))
+                Ok(Answer::Pitch(self.searcher.searched(&call)?))
             }
             3 => Ok(Answer::Pulses(pulses::recorded(body)?.search())),
             4 => Ok(Answer::Gain(gain::recorded(body)?.quantize())),
@@ -70,19 +71,26 @@ impl LagReader {
                 fraction: Fraction::Zero,
             },
             next: 1,
+            start: 0,
         }
+    }
+
+    pub fn state(&self) -> PitchState {
+        pitch_state(self.previous, self.next, self.start)
     }
 
     pub fn read(&mut self, subframe: u8, index: u8) -> Result<PitchLag, SignedRefusal> {
         let lag = read(Reading {
             previous: self.previous,
             expected: self.next,
+            start: self.start,
             subframe,
             index,
         })?;
         *self = Self {
             previous: lag,
             next: subframe % 4 + 1,
+            start: read_start(subframe, lag, index),
         };
         Ok(lag)
     }

@@ -15,8 +15,7 @@ use crate::{
     lent::unwritten,
     open_loop::HISTORY,
     project::{END, PitchState, StepAnswer, fresh_pitch, step, with_states},
-    states::{self, FRACTIONS, INDEXES, NUMBERS, SAMPLES},
-    subframes::pitch_state,
+    states::{self, FRACTIONS, INDEXES, NUMBERS, SAMPLES, STARTS},
     words::quiet,
 };
 
@@ -36,7 +35,7 @@ pub fn functions() -> [Function; 2] {
         },
         Function {
             name: "step_state",
-            compare: || compare_steps("rule of 01, every fraction and lag", every_word),
+            compare: || compare_steps("rule of 01, every fraction, lag and start", every_word),
         },
     ]
 }
@@ -47,15 +46,17 @@ fn every_number(index: u64) -> [PitchState; 2] {
         samples: SAMPLES[(bits >> 3) as usize % SAMPLES.len()],
         fraction: FRACTIONS[(bits >> 5) as usize % FRACTIONS.len()],
         next: bits as u8,
+        start: STARTS[(bits + (bits >> 8)) as usize % STARTS.len()],
     })
 }
 
-/// Every fraction and every lag, at some numbers.
+/// Every fraction, every lag and every start, at some numbers.
 fn every_word(index: u64) -> [PitchState; 2] {
     [index, !index].map(|bits| PitchState {
         samples: bits as u16,
         fraction: bits as i16,
         next: NUMBERS[(bits as u16 / 7) as usize % NUMBERS.len()],
+        start: (bits as u16).swap_bytes(),
     })
 }
 
@@ -219,18 +220,20 @@ impl Sample {
             (None, Some(&PITCH)) => {
                 let call = calls::recorded(body);
                 let found = states::searched(searcher, &call, call.open_loop, call.subframe);
-                if let Ok(found) = found {
-                    searcher = pitch_state(found.lag, call.subframe % 4 + 1);
+                if let Ok((_, after)) = found {
+                    searcher = after;
                 }
-                let answered = found.map(Answer::Pitch).map_err(Into::into);
+                let answered = found.map(|(found, _)| Answer::Pitch(found));
+                let answered = answered.map_err(Into::into);
                 Expected::of(&answered, &self.stages)
             }
             (None, Some(_)) => {
-                let lag = states::read(reader, body[0], body[1]);
-                if let Ok(lag) = lag {
-                    reader = pitch_state(lag, body[0] % 4 + 1);
+                let read = states::read(reader, body[0], body[1]);
+                if let Ok((_, after)) = read {
+                    reader = after;
                 }
-                let answered = lag.map(Answer::Lag).map_err(Into::into);
+                let answered = read.map(|(lag, _)| Answer::Lag(lag));
+                let answered = answered.map_err(Into::into);
                 Expected::of(&answered, &self.stages)
             }
             (None, None) => Expected::at_end(&self.stages),

@@ -14,7 +14,6 @@ use crate::{
     lent::{Lent, unwritten},
     open_loop::HISTORY,
     project::{END, PitchState, StepAnswer, fresh_pitch, states, step, with_states},
-    subframes::{pitch_state, state},
     words::SUBFRAME,
 };
 
@@ -45,9 +44,8 @@ impl Kept {
     }
 
     fn of(stages: &Stages) -> Self {
-        let reader = pitch_state(stages.reader.previous, stages.reader.next);
         Self {
-            states: [state(&stages.search), reader],
+            states: [stages.searcher.state(), stages.reader.state()],
             history: stages.detector.history_q0.to_vec(),
         }
     }
@@ -220,9 +218,11 @@ fn refused(number: u8, detail: i64) -> StepAnswer {
         searcher_samples: 0,
         searcher_fraction: 0,
         searcher_next: 0,
+        searcher_start: 0,
         reader_samples: 0,
         reader_fraction: 0,
         reader_next: 0,
+        reader_start: 0,
     }
 }
 

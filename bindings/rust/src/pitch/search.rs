@@ -63,12 +63,19 @@ pub struct SearchedPitch {
 pub struct Search {
     pub previous: PitchLag,
     pub next: Subframe,
+    /// The first whole lag of the window that was searched last; 0 when fresh. The whole lag that
+    /// was found there lies between `start - 1` and `start + 10`. No search depends on it.
+    pub start: u16,
 }
 
 impl Default for Search {
     fn default() -> Self {
-        let (previous, next) = kept(entries::fresh_pitch());
-        Self { previous, next }
+        let (previous, next, start) = kept(entries::fresh_pitch());
+        Self {
+            previous,
+            next,
+            start,
+        }
     }
 }
 
@@ -89,7 +96,7 @@ impl Search {
     ) -> Result<SearchedPitch, SearchError> {
         let [first, second] = open_loop;
         let answer = entries::pitch_search(
-            state(self.previous, self.next),
+            state(self.previous, self.next, self.start),
             excitation,
             target,
             impulse_q12,
@@ -98,7 +105,7 @@ impl Search {
             subframe.number(),
         );
         SearchError::check(answer.number, answer.magnitude)?;
-        (self.previous, self.next) = kept(answer.state());
+        (self.previous, self.next, self.start) = kept(answer.state());
         Ok(SearchedPitch {
             lag: PitchLag::of(answer.samples, answer.fraction),
             index: answer.index,

@@ -7,9 +7,10 @@ use borrow.Author.Tests.{ltb-true, ltb-false, le-leb, lt-leb, eq-eqb, ne_eqb}
 use Rattle.refusal.specs.Refused.{values}
 use Rattle.refusal.specs.Checks.{unless_refused, in_order}
 use Rattle.pitch.specs.Kinds.{subframe_number, absolute, following}
+use Rattle.pitch.specs.Windows.{handset}
 use Rattle.pitch.specs.Indexes.{lag_of}
 use Rattle.lag_reader.specs.declared.Reader.{Reader}
-use Rattle.lag_reader.specs.Readers.{relative_index_fits, read}
+use Rattle.lag_reader.specs.Readers.{relative_index_fits, start_used, read}
 use Rattle.lag_reader.proofs.Reader.read.Goals as goal
 
 -- the one test of number 5
@@ -22,8 +23,13 @@ width_test false i false e = le-leb i 31 (ltb-false 31 i e)
 past : (r : Reader) (n index : ℕ) → 1 ≤ n → n ≤ 4 → read r n index
     ≡ unless_refused (in_order (subframe_number r.next) n ∷ relative_index_fits r.next index ∷ []) r
     (record {
-      answer = values (lag_of r.next r.previous.samples index);
-      after = record { previous = lag_of r.next r.previous.samples index; next = following r.next };
+      answer = values (lag_of handset r.next r.previous.samples index);
+      after =
+          record {
+            previous = lag_of handset r.next r.previous.samples index;
+            next = following r.next;
+            start = start_used handset r.next r.previous.samples;
+          };
     })
 unfolding read
 past r n index low high = rw (le-leb 1 n low, le-leb n 4 high)
@@ -68,5 +74,6 @@ returns c =
       eq-eqb a.subframe (subframe_number a.self.next) (c.if-subframe-number.false ∙ c.number.ensures),
       width_test (absolute a.self.next) a.index false t,
       ← c.decoded.ensures,
+      ← c.start_used-start.ensures,
     )
     c.taken.ensures

@@ -6,6 +6,7 @@ use lib.IntN.{ℤ}
 use lib.ListN.{length}
 use Rattle.refusal.specs.Checks.{unless_refused, open_loop_lag, in_order}
 use Rattle.pitch.specs.Kinds.{subframe_number}
+use Rattle.pitch.specs.Windows.{handset}
 use Rattle.pitch.proofs.LagChecks.{lag_taken, lag_refused}
 use Rattle.pitch_search.specs.declared.Search.{Search}
 use Rattle.pitch_search.specs.Searches.{accepted, Pitch_fr}
@@ -14,7 +15,7 @@ use Rattle.pitch_search.proofs.Search.search.Goals as goal
 -- past numbers 1 and 2
 past : (s : Search) (exc target hs : List ℤ) (first second n : ℕ) → length exc ≡ 194 → length target ≡ 40 → length hs ≡ 40 → 1 ≤ n → n ≤ 4 →
     Pitch_fr s exc target hs first second n
-    ≡ unless_refused (open_loop_lag first ∷ open_loop_lag second ∷ in_order (subframe_number s.next) n ∷ []) s (accepted s exc target hs first second)
+    ≡ unless_refused (open_loop_lag handset first ∷ open_loop_lag handset second ∷ in_order (subframe_number s.next) n ∷ []) s (accepted s exc target hs first second)
 unfolding Pitch_fr
 past s exc target hs first second n e t h l m = rw (eq-eqb _ 194 e, eq-eqb _ 40 t, eq-eqb _ 40 h, le-leb 1 n l, le-leb n 4 m)
 
@@ -68,7 +69,7 @@ returns-in_default c =
     past a.self a.excitation.now a.target.now a.impulse_q12.now a.first a.second a.subframe c.if-excitation-ne-EXCITATION_SAMPLES.false c.if-target-ne-SUBFRAME_SAMPLES.false
     c.if-impulse_q12-ne-SUBFRAME_SAMPLES.false c.if-subframe-lt1.false c.if-subframe-gt4.false
     in
-    rw (h, lag_refused a.first c.try_new.ensures c.in_default.is) c.refused-in_default.ensures
+    rw (h, lag_refused handset a.first c.try_new.ensures c.in_default.is) c.refused-in_default.ensures
 
 pub returns-in_default-try_new : goal.returns-in_default-try_new
 returns-in_default-try_new c =
@@ -79,8 +80,8 @@ returns-in_default-try_new c =
     in
     rw (
       h,
-      (lag_taken a.first c.try_new.ensures c.in-Lag.is).0,
-      lag_refused a.second c.try_new-2.ensures c.in_default-try_new.is,
+      (lag_taken handset a.first c.try_new.ensures c.in-Lag.is).0,
+      lag_refused handset a.second c.try_new-2.ensures c.in_default-try_new.is,
     )
     c.refused-in_default-try_new.ensures
 
@@ -93,8 +94,8 @@ returns-then-subframe-number c =
     in
     rw (
       h,
-      (lag_taken a.first c.try_new.ensures c.in-Lag.is).0,
-      (lag_taken a.second c.try_new-2.ensures c.in-Lag-try_new.is).0,
+      (lag_taken handset a.first c.try_new.ensures c.in-Lag.is).0,
+      (lag_taken handset a.second c.try_new-2.ensures c.in-Lag-try_new.is).0,
       ne_eqb a.subframe (subframe_number a.self.next) (λ e. c.if-subframe-number.true (e ∙ sym c.number.ensures)),
       ← c.number-then-subframe-number.ensures,
     )
@@ -107,8 +108,8 @@ returns c =
     past a.self a.excitation.now a.target.now a.impulse_q12.now a.first a.second a.subframe c.if-excitation-ne-EXCITATION_SAMPLES.false c.if-target-ne-SUBFRAME_SAMPLES.false
     c.if-impulse_q12-ne-SUBFRAME_SAMPLES.false c.if-subframe-lt1.false c.if-subframe-gt4.false
     in
-    let p = lag_taken a.first c.try_new.ensures c.in-Lag.is in
-    let q = lag_taken a.second c.try_new-2.ensures c.in-Lag-try_new.is in
+    let p = lag_taken handset a.first c.try_new.ensures c.in-Lag.is in
+    let q = lag_taken handset a.second c.try_new-2.ensures c.in-Lag-try_new.is in
     rw (
       h,
       p.0,

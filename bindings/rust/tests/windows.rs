@@ -1,0 +1,280 @@
+//! The start of the last window, which searcher and reader keep.
+
+use mr74::{
+    Refusal, SUBFRAME_SAMPLES,
+    entries::{self, PitchAnswer, PitchState},
+    pitch::{
+        LagReader, PitchLag,
+        search::{EXCITATION_SAMPLES, OpenLoopLag, Search, SearchedPitch, Subframe},
+    },
+};
+
+const SILENCE: [i16; SUBFRAME_SAMPLES] = [0; SUBFRAME_SAMPLES];
+const SILENT_EXCITATION: [i16; EXCITATION_SAMPLES] = [0; EXCITATION_SAMPLES];
+
+fn open_loop(lags: [u16; 2]) -> [OpenLoopLag; 2] {
+    lags.map(|lag| OpenLoopLag::try_new(lag).expect("a lag"))
+}
+
+/// A search in which every word is 0, with the lags 80 and 100.
+fn silent(searcher: &mut Search, subframe: Subframe) -> Result<SearchedPitch, Refusal> {
+    let lags = open_loop([80, 100]);
+    searcher.search(&SILENT_EXCITATION, &SILENCE, &SILENCE, lags, subframe)
+}
+
+fn silent_answer(searcher: PitchState, lags: [u16; 2], subframe: u8) -> PitchAnswer {
+    let [first, second] = lags;
+    entries::pitch_search(
+        searcher,
+        &SILENT_EXCITATION,
+        &SILENCE,
+        &SILENCE,
+        first,
+        second,
+        subframe,
+    )
+}
+
+fn state(samples: u16, next: u8, start: u16) -> PitchState {
+    PitchState {
+        samples,
+        fraction: 0,
+        next,
+        start,
+    }
+}
+
+/// Index, whole lag and thirds.
+fn numbers(pitch: SearchedPitch) -> (u8, u16, i16) {
+    let SearchedPitch { lag, index } = pitch;
+    (index, lag.samples(), lag.fraction().thirds())
+}
+
+fn lag_numbers(lag: PitchLag) -> (u16, i16) {
+    (lag.samples(), lag.fraction().thirds())
+}
+
+#[test]
+fn fresh_and_reset_have_start_0() -> Result<(), Refusal> {
+    assert_eq!(entries::fresh_pitch(), state(40, 1, 0));
+    let mut searcher = Search::default();
+    assert_eq!(searcher.start, 0);
+    silent(&mut searcher, Subframe::One)?;
+    assert_eq!(searcher.start, 77);
+    searcher.reset();
+    assert_eq!(searcher.start, 0);
+    let mut reader = LagReader::default();
+    assert_eq!(reader.start, 0);
+    reader.read(Subframe::One, 189)?;
+    reader.read(Subframe::Two, 5)?;
+    assert_eq!(reader.start, 77);
+    reader.reset();
+    assert_eq!(reader.start, 0);
+    Ok(())
+}
+
+#[test]
+fn a_search_keeps_the_start_of_its_window() -> Result<(), Refusal> {
+    let mut searcher = Search::default();
+    let mut find = |subframe| {
+        let found = silent(&mut searcher, subframe)?;
+        Ok((numbers(found), searcher.start))
+    };
+    assert_eq!(find(Subframe::One)?, ((189, 82, 1), 77));
+    assert_eq!(find(Subframe::Two)?, ((27, 85, 1), 77));
+    // Around the second open-loop lag.
+    assert_eq!(find(Subframe::Three)?, ((215, 103, 0), 97));
+    assert_eq!(find(Subframe::Four)?, ((27, 106, 1), 98));
+    assert_eq!(find(Subframe::One)?, ((189, 82, 1), 77));
+    Ok(())
+}
+
+#[test]
+fn a_reading_keeps_the_start_that_it_used() -> Result<(), Refusal> {
+    let mut reader = LagReader::default();
+    let mut read = |subframe, index| {
+        let lag = reader.read(subframe, index)?;
+        Ok((lag_numbers(lag), reader.start))
+    };
+    assert_eq!(read(Subframe::One, 189)?, ((82, 1), 0));
+    assert_eq!(read(Subframe::Two, 27)?, ((85, 1), 77));
+    assert_eq!(read(Subframe::Three, 215)?, ((103, 0), 0));
+    assert_eq!(read(Subframe::Four, 0)?, ((97, 1), 98));
+    assert_eq!(read(Subframe::One, 2)?, ((20, 0), 0));
+    Ok(())
+}
+
+#[test]
+fn starts_are_held() {
+    for (lag, start) in [
+        (20, 20),
+        (23, 20),
+        (24, 21),
+        (57, 54),
+        (139, 136),
+        (140, 137),
+        (141, 137),
+        (143, 137),
+    ] {
+        assert_eq!(silent_answer(state(40, 1, 0), [lag, 80], 1).start, start);
+        assert_eq!(silent_answer(state(40, 3, 0), [80, lag], 3).start, start);
+    }
+    for (previous, start) in [
+        (0, 20),
+        (4, 20),
+        (19, 20),
+        (25, 20),
+        (26, 21),
+        (82, 77),
+        (138, 133),
+        (139, 134),
+        (140, 134),
+        (144, 134),
+        (u16::MAX, 134),
+    ] {
+        for subframe in [2, 4] {
+            let kept = state(previous, subframe, 0);
+            assert_eq!(silent_answer(kept, [80, 80], subframe).start, start);
+            for index in [0, 5, 31] {
+                assert_eq!(entries::read_lag(kept, subframe, index).start, start);
+            }
+        }
+    }
+}
+
+#[test]
+fn a_damaged_index_behind_an_intact_one_leaves_the_reader_the_start() -> Result<(), Refusal> {
+    let (mut searcher, mut reader) = (Search::default(), LagReader::default());
+    let sent = silent(&mut searcher, Subframe::One)?;
+    assert_eq!((sent.index, searcher.start), (189, 77));
+    reader.read(Subframe::One, sent.index)?;
+    assert_eq!(reader.start, 0);
+    let sent = silent(&mut searcher, Subframe::Two)?;
+    assert_eq!((sent.index, searcher.start), (27, 77));
+    let lag = reader.read(Subframe::Two, 5)?;
+    assert_eq!((lag_numbers(lag), reader.start), ((78, 0), 77));
+    Ok(())
+}
+
+#[test]
+fn an_index_behind_a_damaged_one_is_read_from_another_start() -> Result<(), Refusal> {
+    let (mut searcher, mut reader) = (Search::default(), LagReader::default());
+    silent(&mut searcher, Subframe::One)?;
+    let lag = reader.read(Subframe::One, 0)?;
+    assert_eq!((lag_numbers(lag), reader.start), ((19, 1), 0));
+    let sent = silent(&mut searcher, Subframe::Two)?;
+    reader.read(Subframe::Two, sent.index)?;
+    assert_eq!([searcher.start, reader.start], [77, 20]);
+    Ok(())
+}
+
+#[test]
+fn a_refusal_keeps_the_start() -> Result<(), Refusal> {
+    let (mut searcher, mut reader) = (Search::default(), LagReader::default());
+    for subframe in [Subframe::One, Subframe::Two] {
+        let sent = silent(&mut searcher, subframe)?;
+        reader.read(subframe, sent.index)?;
+    }
+    for subframe in [Subframe::One, Subframe::Two, Subframe::Four] {
+        let refused = silent(&mut searcher, subframe).map_err(|refusal| refusal.number);
+        assert_eq!((refused, searcher.start), (Err(4), 77));
+        let refused = reader.read(subframe, 0).map_err(|refusal| refusal.number);
+        assert_eq!((refused, reader.start), (Err(4), 77));
+    }
+    reader.next = Subframe::Four;
+    reader.start = 7;
+    let refused = reader
+        .read(Subframe::Four, 32)
+        .map_err(|refusal| refusal.number);
+    assert_eq!((refused, reader.start), (Err(5), 7));
+    Ok(())
+}
+
+#[test]
+fn a_start_that_is_handed_in_changes_no_answer() {
+    for start in [0, 7, 77, u16::MAX] {
+        let given = state(82, 1, start);
+        for (lags, subframe, number) in [([80, 80], 5, 2), ([80, 19], 1, 3), ([80, 80], 2, 4)] {
+            let refused = silent_answer(given, lags, subframe);
+            assert_eq!((refused.number, refused.state()), (number, given));
+        }
+        let refused = entries::pitch_search(given, &[], &SILENCE, &SILENCE, 80, 80, 1);
+        assert_eq!((refused.number, refused.state()), (1, given));
+        let refused = entries::read_lag(given, 2, 0);
+        assert_eq!((refused.number, refused.state()), (4, given));
+        let relative = state(82, 2, start);
+        let refused = entries::read_lag(relative, 2, 32);
+        assert_eq!((refused.number, refused.state()), (5, relative));
+
+        let found = silent_answer(given, [80, 80], 1);
+        assert_eq!((found.number, found.index, found.start), (0, 189, 77));
+        let found = silent_answer(relative, [80, 80], 2);
+        assert_eq!((found.number, found.index, found.start), (0, 27, 77));
+        let read = entries::read_lag(given, 1, 0);
+        assert_eq!((read.number, read.samples, read.start), (0, 19, 0));
+        let read = entries::read_lag(relative, 2, 0);
+        assert_eq!((read.number, read.samples, read.start), (0, 76, 77));
+    }
+}
+
+/// Pseudo-random numbers, the same in every run.
+struct Drawn(u32);
+
+impl Drawn {
+    fn below(&mut self, end: u32) -> u32 {
+        self.0 = self.0.wrapping_mul(1664525).wrapping_add(1013904223);
+        (self.0 >> 16) % end
+    }
+
+    fn words<const N: usize>(&mut self) -> [i16; N] {
+        std::array::from_fn(|_| self.below(8001) as i16 - 4000)
+    }
+}
+
+/// In subframes one and three the sent index arrives at the reader, in two and four any: there both
+/// have the same start.
+#[test]
+fn a_lag_lies_in_its_window() -> Result<(), Refusal> {
+    const FRAMES: usize = 500;
+    let (mut searcher, mut reader) = (Search::default(), LagReader::default());
+    let mut drawn = Drawn(1);
+    let mut met = [false; 12];
+    for _ in 0..FRAMES {
+        let lags = [(); 2].map(|()| 20 + drawn.below(124) as u16);
+        for subframe in [
+            Subframe::One,
+            Subframe::Two,
+            Subframe::Three,
+            Subframe::Four,
+        ] {
+            let previous = searcher.previous.samples();
+            let (excitation, target) = (drawn.words(), drawn.words());
+            let impulse = drawn.words();
+            let sent =
+                searcher.search(&excitation, &target, &impulse, open_loop(lags), subframe)?;
+            let start = match subframe {
+                Subframe::One => (lags[0] - 3).clamp(20, 137),
+                Subframe::Three => (lags[1] - 3).clamp(20, 137),
+                Subframe::Two | Subframe::Four => (previous - 5).clamp(20, 134),
+            };
+            assert_eq!(searcher.start, start);
+            let lag = sent.lag.samples();
+            assert!((start - 1..=start + 10).contains(&lag), "{lag} of {start}");
+            met[usize::from(lag + 1 - start)] = true;
+            match subframe {
+                Subframe::One | Subframe::Three => {
+                    reader.read(subframe, sent.index)?;
+                    assert_eq!(reader.start, 0);
+                }
+                Subframe::Two | Subframe::Four => {
+                    let lag = reader.read(subframe, drawn.below(32) as u8)?.samples();
+                    assert_eq!(reader.start, start);
+                    assert!((start - 1..=start + 10).contains(&lag), "{lag} of {start}");
+                }
+            }
+        }
+    }
+    // Every lag of a window was answered, and one more on either side.
+    assert_eq!(met, [true; 12]);
+    Ok(())
+}

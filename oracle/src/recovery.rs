@@ -1,0 +1,253 @@
+//! Demand 3's list with the library's searcher and lag reader: searches, whose indexes may be
+//! damaged on the way to the reader, resets and stray readings. Compared are the starts that both
+//! keep.
+
+use crate::{
+    calls::{Call, Step},
+    chains::Chain,
+    compare::{Function, Line, in_threads},
+    counts::{Cases, cases},
+    inputs::Random,
+    project::{PitchState, fresh_pitch, read_lag},
+    search, states,
+};
+use std::fmt;
+
+const CHAINS: u64 = 8_000;
+
+/// Of so many indexes one is drawn anew, and before one of so many steps there is a stray reading.
+const DRAWN_OF: u64 = 3;
+const STRAY_OF: u64 = 4;
+
+/// The greatest index of subframes 2 and 4.
+const MAX_RELATIVE: u8 = 31;
+
+cases! {
+    Reset => "reset",
+    StraySubframe => "stray reading, not of the subframe that is due",
+    StrayIndex => "stray reading of an index above 31",
+    Intact => "after an intact index, the own one intact",
+    Damaged => "after an intact index, the own one damaged",
+    AfterSearch => "after an intact index, a refused search between",
+    AfterStray => "after an intact index, a stray reading between",
+    Unequal => "after a damaged index, starts that differ",
+}
+
+pub fn functions() -> [Function; 1] {
+    [Function {
+        name: "recovery",
+        compare: compare_chains,
+    }]
+}
+
+fn compare_chains() -> Vec<Line> {
+    let mut tally = Tally::new();
+    let parts = in_threads(CHAINS, Tally::new, |tally, chains| {
+        for index in chains {
+            tally.compare_chain(index);
+        }
+    });
+    for part in parts {
+        tally.add(part);
+    }
+    let cases = Line::of_cases(tally.cases.counts(|_| true));
+    vec![tally.starts, tally.readings, cases]
+}
+
+/// A step of a chain, as a report shows it.
+#[derive(Clone, Copy)]
+struct Place {
+    chain: u64,
+    step: usize,
+}
+
+impl fmt::Debug for Place {
+    fn fmt(&self, f: &mut fmt::Formatter<'_>) -> fmt::Result {
+        let Self { chain, step } = self;
+        write!(f, "chain {chain} step {step}")
+    }
+}
+
+/// Searcher and reader, and the last place with no reset after it.
+struct Pair {
+    searcher: PitchState,
+    reader: PitchState,
+    last: Option<Last>,
+}
+
+/// Subframe and index of a place, and what was refused after it.
+#[derive(Clone, Copy)]
+struct Last {
+    subframe: u8,
+    intact: bool,
+    search_refused: bool,
+    strayed: bool,
+}
+
+impl Pair {
+    fn fresh() -> Self {
+        Self {
+            searcher: fresh_pitch(),
+            reader: fresh_pitch(),
+            last: None,
+        }
+    }
+
+    /// The subframe that is due.
+    fn due(&self) -> u8 {
+        self.last.map_or(1, |last| last.subframe % 4 + 1)
+    }
+}
+
+/// What was compared, and which cases were met.
+struct Tally {
+    starts: Line,
+    readings: Line,
+    cases: Cases<Case>,
+}
+
+impl Tally {
+    fn new() -> Self {
+        Self {
+            starts: Line::new("rule of 02, reader's start after an intact index"),
+            readings: Line::new("rule of 01, readings refused or not"),
+            cases: Cases::new(),
+        }
+    }
+
+    fn add(&mut self, part: Tally) {
+        self.starts.add(part.starts);
+        self.readings.add(part.readings);
+        self.cases.add(part.cases);
+    }
+
+    fn compare_chain(&mut self, index: u64) {
+        let random = &mut Random::at(!index);
+        let mut chain = Chain::at(index, &[]);
+        let mut pair = Pair::fresh();
+        for number in 1.. {
+            let search = states::search(pair.searcher).expect("a subframe that is expected");
+            let Some(step) = chain.next(&search) else {
+                break;
+            };
+            let place = Place {
+                chain: index,
+                step: number,
+            };
+            if random.below(STRAY_OF) == 0 {
+                self.compare_stray(place, &mut pair, random);
+            }
+            match step {
+                Step::Reset => {
+                    self.cases.count(Case::Reset);
+                    pair = Pair::fresh();
+                }
+                Step::Search(call) => self.compare_search(place, &mut pair, random, &call),
+            }
+        }
+    }
+
+    fn compare_stray(&mut self, place: Place, pair: &mut Pair, random: &mut Random) {
+        let due = pair.due();
+        let [subframe, index] = stray(random, due);
+        self.cases.count(match subframe == due {
+            true => Case::StrayIndex,
+            false => Case::StraySubframe,
+        });
+        self.compare_reading(place, pair, [subframe, index], true);
+        if let Some(last) = &mut pair.last {
+            last.strayed = true;
+        }
+    }
+
+    fn compare_search(&mut self, place: Place, pair: &mut Pair, random: &mut Random, call: &Call) {
+        let sent = search::searched(pair.searcher, call);
+        pair.searcher = sent.state();
+        if sent.number != 0 {
+            if let Some(last) = &mut pair.last {
+                last.search_refused = true;
+            }
+            return;
+        }
+        let subframe = call.subframe;
+        let arrived = arriving(random, subframe, sent.index);
+        self.compare_reading(place, pair, [subframe, arrived], false);
+        let intact = arrived == sent.index;
+        if let Some(last) = pair.last
+            && subframe.is_multiple_of(2)
+        {
+            self.compare_starts(place, pair, last, intact);
+        }
+        pair.last = Some(Last {
+            subframe,
+            intact,
+            search_refused: false,
+            strayed: false,
+        });
+    }
+
+    fn compare_reading(
+        &mut self,
+        place: Place,
+        pair: &mut Pair,
+        [subframe, index]: [u8; 2],
+        refused: bool,
+    ) {
+        let read = read_lag(pair.reader, subframe, index);
+        pair.reader = read.state();
+        self.readings.compared += 1;
+        if (read.number != 0) != refused {
+            self.readings
+                .difference(place.chain, &place, &read, &("refused", refused));
+        }
+    }
+
+    /// Compares the starts kept in subframe 2 or 4, whether its own index is intact or damaged.
+    fn compare_starts(&mut self, place: Place, pair: &Pair, last: Last, intact: bool) {
+        let (reader, searcher) = (pair.reader.start, pair.searcher.start);
+        if !last.intact {
+            if reader != searcher {
+                self.cases.count(Case::Unequal);
+            }
+            return;
+        }
+        self.starts.compared += 1;
+        if reader != searcher {
+            self.starts
+                .difference(place.chain, &place, &reader, &searcher);
+        }
+        self.cases.count(match intact {
+            true => Case::Intact,
+            false => Case::Damaged,
+        });
+        for (case, met) in [
+            (Case::AfterSearch, last.search_refused),
+            (Case::AfterStray, last.strayed),
+        ] {
+            if met {
+                self.cases.count(case);
+            }
+        }
+    }
+}
+
+/// The index as it arrives: the sent one, or any of those that are as wide.
+fn arriving(random: &mut Random, subframe: u8, sent: u8) -> u8 {
+    if random.below(DRAWN_OF) != 0 {
+        return sent;
+    }
+    match subframe {
+        2 | 4 => random.below(u64::from(MAX_RELATIVE) + 1) as u8,
+        _ => random.word() as u8,
+    }
+}
+
+/// A subframe that is not due, with any index, or the due one with an index that it does not have.
+fn stray(random: &mut Random, due: u8) -> [u8; 2] {
+    let index = random.word() as u8;
+    match random.below(3) {
+        0 if due.is_multiple_of(2) => [due, index.max(MAX_RELATIVE + 1)],
+        1 => [due.wrapping_add(1 + random.below(255) as u8), index],
+        _ => [(due + random.below(3) as u8) % 4 + 1, index],
+    }
+}
