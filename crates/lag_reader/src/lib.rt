@@ -12,7 +12,7 @@ use refusal::Refusal;
 
 const MAX_DELTA_INDEX: u8 = 31;
 
-// The lag reader: the lag that it read last, the subframe that it expects, and the start of its last window: 0 where that reading had none, or there was none.
+// The lag reader: the lag that it read last, the subframe that it expects, and the start of the window that it read in, 0 when fresh and after subframes one and three.
 #[derive(Clone, Copy)]
 pub struct Reader {
     pub previous: PitchLag,

@@ -26,7 +26,7 @@ pub enum Found {
     Refused(Refusal),
 }
 
-// The searcher: the lag that it sent last, the subframe that it expects, and the start of its last window, 0 before the first.
+// The searcher: the lag that it sent last, the subframe that it expects, and the start of its last window, 0 when fresh.
 #[derive(Clone, Copy)]
 pub struct Search {
     pub previous: PitchLag,
