@@ -127,8 +127,8 @@ mr74_open_loop_answer mr74_open_loop_lag(uint16_t samples);
  *
  * `start` tells which window a lag came from. After an accepted search it is the first whole lag
  * that was searched: the first open-loop lag less 3 in subframe 1 and the second less 3 in 3, both
- * held to 20 to 137; the previous whole lag less 5 in 2 and 4, held to 20 to 134. The whole lag
- * that the search answers lies between start - 1 and start + 10.
+ * held to 20 to 137; the whole lag of the subframe before less 5 in 2 and 4, held to 20 to 134. The
+ * whole lag that the search answers lies between start - 1 and start + 10.
  * After an accepted reading it is the start that the reader used in subframes 2 and 4, by the same
  * rule, and 0 in 1 and 3. Where a subframe 2 or 4 directly follows an index that arrived as it was
  * sent, reader and searcher have the same start after it, even if its own index is damaged.

@@ -1,7 +1,7 @@
 /*
  * The stages of one subframe, called from C, on silence and on a voiced sound, and both readers on
  * what they send; and a level meter of the gain row, on a sound that fits and on a loud one. Prints
- * a line for each answer.
+ * each answer, and behind a pitch and a lag the start of its window.
  */
 #include "mr74.h"
 

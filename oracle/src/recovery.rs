@@ -1,6 +1,6 @@
 //! Demand 3's list with the library's searcher and lag reader: searches, whose indexes may be
-//! damaged on the way to the reader, resets and stray readings. Compared are the starts that both
-//! keep.
+//! damaged on the way to the reader, resets and stray readings. Compared are the lags where demand 3
+//! says that they are recovered, the starts that both keep, and whether each reading is refused.
 
 use crate::{
     calls::{Call, Step},
@@ -8,7 +8,7 @@ use crate::{
     compare::{Function, Line, in_threads},
     counts::{Cases, cases},
     inputs::Random,
-    project::{PitchState, fresh_pitch, read_lag},
+    project::{PitchAnswer, PitchState, fresh_pitch, read_lag},
     search, states,
 };
 use std::fmt;
@@ -51,7 +51,7 @@ fn compare_chains() -> Vec<Line> {
         tally.add(part);
     }
     let cases = Line::of_cases(tally.cases.counts(|_| true));
-    vec![tally.starts, tally.readings, cases]
+    vec![tally.lags, tally.starts, tally.readings, cases]
 }
 
 /// A step of a chain, as a report shows it.
@@ -75,7 +75,7 @@ struct Pair {
     last: Option<Last>,
 }
 
-/// Subframe and index of a place, and what was refused after it.
+/// The subframe of a place, whether its index was intact, and what was refused after it.
 #[derive(Clone, Copy)]
 struct Last {
     subframe: u8,
@@ -101,6 +101,7 @@ impl Pair {
 
 /// What was compared, and which cases were met.
 struct Tally {
+    lags: Line,
     starts: Line,
     readings: Line,
     cases: Cases<Case>,
@@ -109,6 +110,7 @@ struct Tally {
 impl Tally {
     fn new() -> Self {
         Self {
+            lags: Line::new("demand 3 of 01, the reader's lag where it is recovered"),
             starts: Line::new("rule of 02, reader's start after an intact index"),
             readings: Line::new("rule of 01, readings refused or not"),
             cases: Cases::new(),
@@ -116,6 +118,7 @@ impl Tally {
     }
 
     fn add(&mut self, part: Tally) {
+        self.lags.add(part.lags);
         self.starts.add(part.starts);
         self.readings.add(part.readings);
         self.cases.add(part.cases);
@@ -171,8 +174,12 @@ impl Tally {
         }
         let subframe = call.subframe;
         let arrived = arriving(random, subframe, sent.index);
-        self.compare_reading(place, pair, [subframe, arrived], false);
+        let read = self.compare_reading(place, pair, [subframe, arrived], false);
         let intact = arrived == sent.index;
+        let recovered = !subframe.is_multiple_of(2) || pair.last.is_some_and(|last| last.intact);
+        if intact && recovered {
+            self.compare_lags(place, &sent, &read);
+        }
         if let Some(last) = pair.last
             && subframe.is_multiple_of(2)
         {
@@ -192,13 +199,23 @@ impl Tally {
         pair: &mut Pair,
         [subframe, index]: [u8; 2],
         refused: bool,
-    ) {
+    ) -> PitchAnswer {
         let read = read_lag(pair.reader, subframe, index);
         pair.reader = read.state();
         self.readings.compared += 1;
         if (read.number != 0) != refused {
             self.readings
                 .difference(place.chain, &place, &read, &("refused", refused));
+        }
+        read
+    }
+
+    /// Compares the lag that is read with the one that was sent.
+    fn compare_lags(&mut self, place: Place, sent: &PitchAnswer, read: &PitchAnswer) {
+        let [sent, read] = [sent, read].map(|answer| (answer.samples, answer.fraction));
+        self.lags.compared += 1;
+        if read != sent {
+            self.lags.difference(place.chain, &place, &read, &sent);
         }
     }
 

@@ -1,4 +1,4 @@
--- 02, request 08: what the kept start says. One statement, of every searcher and every search.
+-- 02, request 08: which start an accepted search keeps, and how far from it the answered lag lies: of every searcher and every search. Both ends are reached.
 use Rattle.std.specs.Prelude.{◌≡◌, false, List, ◌∷◌, ◌++◌, replicate, ℕ, ◌+◌, ◌-◌, ◌≤◌, ℤ, pos}
 use Rattle.refusal.specs.Refused.{values, accepts}
 use Rattle.refusal.specs.Checks.{Outcome}

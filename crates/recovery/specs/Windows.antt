@@ -1,4 +1,4 @@
--- 02, request 08: whose window a lag reader reads in. A statement beside demand 3's, on the same list, its run and its two hypotheses.
+-- 02, request 08: where the start that the reader keeps is the searcher's. A statement beside demand 3's, on the same list, its run and its two hypotheses.
 use Rattle.std.specs.Prelude.{◌≡◌, List, ◌⊎◌}
 use Rattle.recovery.specs.Runs.{Entry, Event, at_place, search_refused, made_fresh, strayed, State, fresh_state, run}
 use Rattle.recovery.specs.Statement.{Last, none, FollowsIntact, WithinWidth, Stray, Each}
