@@ -184,20 +184,7 @@ pub fn step(
 
 /// The searcher and the reader after a step.
 pub fn states(answer: &StepAnswer) -> [PitchState; 2] {
-    [
-        PitchState {
-            samples: answer.searcher_samples,
-            fraction: answer.searcher_fraction,
-            next: answer.searcher_next,
-            start: answer.searcher_start,
-        },
-        PitchState {
-            samples: answer.reader_samples,
-            fraction: answer.reader_fraction,
-            next: answer.reader_next,
-            start: answer.reader_start,
-        },
-    ]
+    [answer.searcher(), answer.reader()]
 }
 
 /// The same answer with another searcher and reader.

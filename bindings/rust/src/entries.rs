@@ -122,6 +122,28 @@ impl PitchAnswer {
     }
 }
 
+impl StepAnswer {
+    /// The searcher after the step.
+    pub fn searcher(&self) -> PitchState {
+        PitchState {
+            samples: self.searcher_samples,
+            fraction: self.searcher_fraction,
+            next: self.searcher_next,
+            start: self.searcher_start,
+        }
+    }
+
+    /// The reader after the step.
+    pub fn reader(&self) -> PitchState {
+        PitchState {
+            samples: self.reader_samples,
+            fraction: self.reader_fraction,
+            next: self.reader_next,
+            start: self.reader_start,
+        }
+    }
+}
+
 /// Declares a function and its safe form. A list crosses as its first word and its length, a number
 /// or a struct as it is.
 macro_rules! entries {

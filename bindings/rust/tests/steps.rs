@@ -13,20 +13,7 @@ fn fields(answer: &StepAnswer) -> [i32; 4] {
 
 /// The searcher and the reader after a step.
 fn states(answer: &StepAnswer) -> [PitchState; 2] {
-    [
-        PitchState {
-            samples: answer.searcher_samples,
-            fraction: answer.searcher_fraction,
-            next: answer.searcher_next,
-            start: answer.searcher_start,
-        },
-        PitchState {
-            samples: answer.reader_samples,
-            fraction: answer.reader_fraction,
-            next: answer.reader_next,
-            start: answer.reader_start,
-        },
-    ]
+    [answer.searcher(), answer.reader()]
 }
 
 /// A pitch record in which every sample is 0 and both open-loop lags are 80.

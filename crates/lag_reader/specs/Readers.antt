@@ -1,5 +1,5 @@
 -- The lag reader of 01.
-use Rattle.std.specs.Prelude.{cond, ◌||◌, [], ◌∷◌, ℕ, leb, pos}
+use Rattle.std.specs.Prelude.{cond, ◌||◌, List, [], ◌∷◌, ℕ, leb, pos}
 use Rattle.refusal.specs.Refused.{Told, values, turned_down}
 use Rattle.refusal.specs.Checks.{Check, Outcome, unless_refused, known_subframe, in_order}
 use Rattle.pitch.specs.declared.Subframe.{Subframe}
@@ -29,16 +29,19 @@ relative_index_fits s index = record { passes = absolute s || leb index 31; numb
 abbrev pub start_used : ℕ → Subframe → ℕ → ℕ
 start_used upper s previous = cond (absolute s) 0 (relative_start upper previous)
 
+-- a reading in subframe s that the checks let through: its lag, and the reader after it
+abbrev pub read_in : Subframe → Reader → ℕ → Outcome PitchLag Reader
+read_in s r index =
+    let lag = lag_of handset s r.previous.samples index in
+    record {
+      answer = values lag;
+      after = record { previous = lag; next = following s; start = start_used handset s r.previous.samples };
+    }
+
+-- 01, numbers 2, 4 and 5 in checking order
+abbrev pub reading_checks : Reader → ℕ → ℕ → List Check
+reading_checks r n index = known_subframe n ∷ in_order (subframe_number r.next) n ∷ relative_index_fits r.next index ∷ []
+
 -- what a reading answers, and the reader after it
 unfoldable pub read : Reader → ℕ → ℕ → Outcome PitchLag Reader
-read r n index =
-    unless_refused (known_subframe n ∷ in_order (subframe_number r.next) n ∷ relative_index_fits r.next index ∷ []) r
-    (record {
-      answer = values (lag_of handset r.next r.previous.samples index);
-      after =
-          record {
-            previous = lag_of handset r.next r.previous.samples index;
-            next = following r.next;
-            start = start_used handset r.next r.previous.samples;
-          };
-    })
+read r n index = unless_refused (reading_checks r n index) r (read_in r.next r index)

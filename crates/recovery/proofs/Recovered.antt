@@ -11,7 +11,7 @@ use lib.IntN.{ℤ}
 use borrow.Author.Tests.{le-leb, eq-eqb, eqb-true, leb-true}
 use Rattle.fixed.proofs.Clips.{contradiction}
 use Rattle.refusal.specs.Refused.{Told, values, refused, accepts}
-use Rattle.refusal.specs.Checks.{Outcome, within, in_order, known_subframe}
+use Rattle.refusal.specs.Checks.{Outcome, within}
 use Rattle.refusal.proofs.Checkings.{Passes, value_or, passed, failed}
 use Rattle.pitch.specs.declared.Subframe.{Subframe}
 use Rattle.pitch.specs.declared.Subframe.TheVariants.{One, Two, Three, Four}
@@ -20,7 +20,7 @@ use Rattle.lag_reader.specs.declared.Reader.{Reader}
 use Rattle.pitch.specs.Kinds.{subframe_number, absolute, following}
 use Rattle.pitch.specs.Windows.{handset}
 use Rattle.pitch.specs.Indexes.{lag_of}
-use Rattle.lag_reader.specs.Readers.{relative_index_fits, start_used, read}
+use Rattle.lag_reader.specs.Readers.{start_used, read_in, reading_checks, read}
 use Rattle.pitch_search.specs.declared.Search.{Search}
 use Rattle.pitch_search.specs.declared.SearchedPitch.{SearchedPitch}
 use Rattle.pitch_window.specs.Windows.{start_of}
@@ -66,19 +66,11 @@ two_or_four Three (inr e) = absurd (omega arith)
 two_or_four Four e = refl
 
 -- ---- the reader
--- what a reading in subframe s after the lag of r leaves
-abbrev left_by : Reader → ℕ → Subframe → Outcome PitchLag Reader
-left_by r i s =
-    record {
-      answer = values (lag_of handset s r.previous.samples i);
-      after = record { previous = lag_of handset s r.previous.samples i; next = following s; start = start_used handset s r.previous.samples };
-    }
-
 -- a reading of the expected subframe, with an index within its width
-taken : (r : Reader) (n i : ℕ) → n ≡ subframe_number r.next → i ≤ cond (absolute r.next) 255 31 → read r n i ≡ left_by r i r.next
+taken : (r : Reader) (n i : ℕ) → n ≡ subframe_number r.next → i ≤ cond (absolute r.next) 255 31 → read r n i ≡ read_in r.next r i
 unfolding read
 taken r n i e w =
-    passed r _ (known_subframe n ∷ in_order (subframe_number r.next) n ∷ relative_index_fits r.next i ∷ []) (rw e (numbered r.next), (eq-eqb n (subframe_number r.next) e, (fits (absolute r.next) w, tt)))
+    passed r _ (reading_checks r n i) (rw e (numbered r.next), (eq-eqb n (subframe_number r.next) e, (fits (absolute r.next) w, tt)))
   where
     fits : (t : Bool) → i ≤ cond t 255 31 → (t || leb i 31) ≡ true
     fits true h = refl
@@ -88,14 +80,14 @@ taken r n i e w =
 stray_refused : (r : Reader) (n i : ℕ) → (n ≡ subframe_number r.next → ⊥) ⊎ (((n ≡ 2) ⊎ (n ≡ 4)) × (31 < i)) →
     (accepts (read r n i).answer ≡ false) × ((read r n i).after ≡ r)
 unfolding read
-stray_refused r n i h = failed r _ (known_subframe n ∷ in_order (subframe_number r.next) n ∷ relative_index_fits r.next i ∷ []) (no h)
+stray_refused r n i h = failed r _ (reading_checks r n i) (no h)
   where
     above : (t : Bool) → t ≡ false → (t || leb i 31) ≡ true → i ≤ 31
     above true q e = contradiction (sym q)
     above false q e = leb-true i 31 e
 
     no : (n ≡ subframe_number r.next → ⊥) ⊎ (((n ≡ 2) ⊎ (n ≡ 4)) × (31 < i)) →
-        Passes (known_subframe n ∷ in_order (subframe_number r.next) n ∷ relative_index_fits r.next i ∷ []) → ⊥
+        Passes (reading_checks r n i) → ⊥
     no (inl d) (a, (b, (c, u))) = d (eqb-true n (subframe_number r.next) b)
     no (inr (m, l)) (a, (b, (c, u))) =
         let e = eqb-true n (subframe_number r.next) b in
@@ -155,11 +147,11 @@ module _ (σ : State) (m : Last) (inv : InStep σ m) (x : Input) (i : ℕ) where
     found : p ≡ value_or p (let_through s x).answer
     found = ap (value_or p) (sym h ∙ ap (λ (o : Outcome SearchedPitch Search). o.answer) outcome)
 
-    reading : read r x.subframe i ≡ left_by r i s.next
+    reading : read r x.subframe i ≡ read_in s.next r i
     reading =
         let e : x.subframe ≡ subframe_number r.next = expected ∙ ap subframe_number (sym inv.same) in
         let v : i ≤ cond (absolute r.next) 255 31 = rw (inv.same, ← (one_or_three_is s.next), ← expected) w in
-        taken r x.subframe i e v ∙ ap (left_by r i) inv.same
+        taken r x.subframe i e v ∙ ap (λ (s : Subframe). read_in s r i) inv.same
 
     -- an intact index is read as it was sent, where the reader holds the searcher's lag or needs none
     own_back : i ≡ p.index → lag_of handset s.next s.previous.samples i ≡ p.lag
@@ -181,7 +173,7 @@ module _ (σ : State) (m : Last) (inv : InStep σ m) (x : Input) (i : ℕ) where
         go false q = inr (inv.agree q f)
 
     stepped : (a : Told PitchLag) →
-        InStep (record { searcher = (let_through s x).after; reader = (left_by r i s.next).after })
+        InStep (record { searcher = (let_through s x).after; reader = (read_in s.next r i).after })
         (last (record { subframe = x.subframe; sent = p; arrived = i; reading = a }))
     stepped a =
         record {
@@ -201,9 +193,9 @@ module _ (σ : State) (m : Last) (inv : InStep σ m) (x : Input) (i : ℕ) where
     placed = (
       (
         (rw reading, λ e c. ap (λ (o : Outcome PitchLag Reader). o.answer) reading ∙ ap values (read_back e (holds_it c))),
-        rw (outcome, reading) same_start,
+        λ two f. rw (outcome, reading) (same_start two f),
       ),
-      rw (outcome, reading) (stepped (left_by r i s.next).answer),
+      rw (outcome, reading) (stepped (read_in s.next r i).answer),
     )
 
   -- a refused search

@@ -1,16 +1,15 @@
 use mathlib.Core.Path.{◌≡◌, sym, ◌∙◌}
-use mathlib.Core.Bool.{Bool, true, false, not, ◌&&◌, ◌||◌}
+use mathlib.Core.Bool.{Bool, true, false, cond, not, ◌&&◌, ◌||◌}
 use mathlib.Core.List.{[], ◌∷◌}
 use Prim.Native.Nat.{ℕ, ◌≤◌}
 use lib.Dec.{ltb, leb}
+use lib.IntN.{pos}
 use borrow.Author.Tests.{ltb-true, ltb-false, le-leb, lt-leb, eq-eqb, ne_eqb}
-use Rattle.refusal.specs.Refused.{values}
+use Rattle.refusal.specs.Refused.{refused}
 use Rattle.refusal.specs.Checks.{unless_refused, in_order}
-use Rattle.pitch.specs.Kinds.{subframe_number, absolute, following}
-use Rattle.pitch.specs.Windows.{handset}
-use Rattle.pitch.specs.Indexes.{lag_of}
+use Rattle.pitch.specs.Kinds.{subframe_number, absolute}
 use Rattle.lag_reader.specs.declared.Reader.{Reader}
-use Rattle.lag_reader.specs.Readers.{relative_index_fits, start_used, read}
+use Rattle.lag_reader.specs.Readers.{relative_index_fits, read_in, read}
 use Rattle.lag_reader.proofs.Reader.read.Goals as goal
 
 -- the one test of number 5
@@ -20,19 +19,15 @@ width_test false i true e = lt-leb i 31 (ltb-true 31 i e)
 width_test false i false e = le-leb i 31 (ltb-false 31 i e)
 
 -- past number 2
-past : (r : Reader) (n index : ℕ) → 1 ≤ n → n ≤ 4 → read r n index
-    ≡ unless_refused (in_order (subframe_number r.next) n ∷ relative_index_fits r.next index ∷ []) r
-    (record {
-      answer = values (lag_of handset r.next r.previous.samples index);
-      after =
-          record {
-            previous = lag_of handset r.next r.previous.samples index;
-            next = following r.next;
-            start = start_used handset r.next r.previous.samples;
-          };
-    })
+past : (r : Reader) (n index : ℕ) → 1 ≤ n → n ≤ 4 →
+    read r n index ≡ unless_refused (in_order (subframe_number r.next) n ∷ relative_index_fits r.next index ∷ []) r (read_in r.next r index)
 unfolding read
 past r n index low high = rw (le-leb 1 n low, le-leb n 4 high)
+
+-- and past number 4: one check is left
+past_order : (r : Reader) (n index : ℕ) → 1 ≤ n → n ≤ 4 → n ≡ subframe_number r.next → (t : Bool) → (not (absolute r.next) && ltb 31 index) ≡ t →
+    read r n index ≡ cond (not t) (read_in r.next r index) (record { answer = refused 5 (pos index); after = r })
+past_order r n index low high e t w = rw (past r n index low high, eq-eqb n (subframe_number r.next) e, width_test (absolute r.next) index t w)
 
 pub returns-then-subframe-lt1 : goal.returns-then-subframe-lt1
 unfolding read
@@ -57,22 +52,17 @@ returns-then-subframe-number c =
 pub returns-then-absolute-index : goal.returns-then-absolute-index
 returns-then-absolute-index c =
     let a = c.args in
+    let e = c.if-subframe-number.false ∙ c.number.ensures in
     let t = rw c.absolute.ensures at c.if-absolute-index.true in
-    rw (
-      past a.self a.subframe a.index c.if-subframe-lt1.false c.if-subframe-gt4.false,
-      eq-eqb a.subframe (subframe_number a.self.next) (c.if-subframe-number.false ∙ c.number.ensures),
-      width_test (absolute a.self.next) a.index true t,
-    )
-    c.refused-then-absolute-index.ensures
+    rw (past_order a.self a.subframe a.index c.if-subframe-lt1.false c.if-subframe-gt4.false e true t) c.refused-then-absolute-index.ensures
 
 pub returns : goal.returns
 returns c =
     let a = c.args in
+    let e = c.if-subframe-number.false ∙ c.number.ensures in
     let t = rw c.absolute.ensures at c.if-absolute-index.false in
     rw (
-      past a.self a.subframe a.index c.if-subframe-lt1.false c.if-subframe-gt4.false,
-      eq-eqb a.subframe (subframe_number a.self.next) (c.if-subframe-number.false ∙ c.number.ensures),
-      width_test (absolute a.self.next) a.index false t,
+      past_order a.self a.subframe a.index c.if-subframe-lt1.false c.if-subframe-gt4.false e false t,
       ← c.decoded.ensures,
       ← c.start_used-start.ensures,
     )
