@@ -30,9 +30,9 @@ EveryStart =
 abbrev pub after_100 : Search
 after_100 = record { previous = record { samples = 100; fraction = Zero }; next = Two; start = 7 }
 
--- one word, and zeros after it
-abbrev pub one_word : ℕ → ℤ → List ℤ
-one_word zeros w = w ∷ replicate zeros (pos 0)
+-- target and impulse response: one word, and zeros after it
+abbrev pub one_word : List ℤ
+one_word = pos 4096 ∷ replicate 39 (pos 0)
 
 -- the excitation's words at the lags 95 and 94, the second one louder
 abbrev pub at_94 : List ℤ
@@ -44,7 +44,7 @@ at_105 = replicate 49 (pos 0) ++ (pos 1000 ∷ pos 300 ∷ (replicate 29 (pos 0)
 
 -- what a search with such words answers, and the searcher after it
 abbrev pub found_in : List ℤ → Outcome SearchedPitch Search
-found_in exc = Pitch_fr after_100 exc (one_word 39 (pos 4096)) (one_word 39 (pos 4096)) 80 80 2
+found_in exc = Pitch_fr after_100 exc one_word one_word 80 80 2
 
 unfoldable pub Ends : Type 0
 Ends =
