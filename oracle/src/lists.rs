@@ -4,7 +4,9 @@ use crate::{
     codec::mr74::pitch::search::convolve,
     compare::{Function, function},
     inputs::{Inputs, Random},
-    project::{self, ACCEPTED, EnergyAndSum, LengthAnswer, leaf_energy_and_sum40, leaf_energy40},
+    project::{
+        self, ACCEPTED, EnergyAndSum, LengthAnswer, leaf_dot40, leaf_energy_and_sum40, leaf_energy40,
+    },
     published,
     speech::Speech,
     subframes::{check_lengths, length_answer},
@@ -16,10 +18,13 @@ const CONVOLUTIONS: u64 = 2_000_000;
 
 type Subframe = Words<SUBFRAME>;
 
-pub fn functions() -> [Function; 4] {
+pub fn functions() -> [Function; 5] {
     [
         function!("energy40", pairs(SUMS), |(x, _)| leaf_energy40(&x.0), {
             "pitch/search.rs energy" => published::energy40(&x.0),
+        }),
+        function!("dot40", pairs(SUMS), |(x, y)| leaf_dot40(&x.0, &y.0), {
+            "pitch/search.rs target sum" => published::dot40(&x.0, &y.0),
         }),
         function!("energy_and_sum40", pairs(SUMS), |(x, y)| leaf_energy_and_sum40(&x.0, &y.0), {
             "pitch/search.rs energy and target sum" => EnergyAndSum {

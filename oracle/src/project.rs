@@ -89,6 +89,7 @@ unsafe extern "C" {
     pub safe fn leaf_inverse_sqrt(value: i32) -> i32;
     pub safe fn leaf_product_high(left: i16, right: i16, count: u32) -> i16;
     pub safe fn leaf_energy40(words: &[i16; 40]) -> i32;
+    pub safe fn leaf_dot40(left: &[i16; 40], right: &[i16; 40]) -> i32;
     pub safe fn leaf_energy_and_sum40(left: &[i16; 40], right: &[i16; 40]) -> EnergyAndSum;
 }
 

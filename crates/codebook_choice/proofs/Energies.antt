@@ -167,9 +167,9 @@ module _ (base own : ℤ) (f : mag base < 2 ^ 15) (g : mag own < 2 ^ 15) where
       third_rounded : Within 294912 294911 (pos 4 *ℤ base +ℤ own +ℤ pos 2 *ℤ a +ℤ pos 2 *ℤ b +ℤ pos 8)
       third_rounded = within_add 294912 294903 0 8 (pos 4 *ℤ base +ℤ own +ℤ pos 2 *ℤ a +ℤ pos 2 *ℤ b) (pos 8) (in_3 4 131072 131068 base own a b (four_times base f) g fa fb) (omega arith)
 
-      pub third-plain :
+      pub third_plain :
           round (L_mac (L_mac (L_mac (L_mult base (pos 8192)) own (pos 2048)) a (pos 4096)) b (pos 4096)) ≡ shr_z (pos 4 *ℤ base +ℤ own +ℤ pos 2 *ℤ a +ℤ pos 2 *ℤ b +ℤ pos 8) 16
-      third-plain =
+      third_plain =
           let x : ℤ = pos 4 *ℤ base +ℤ own +ℤ pos 2 *ℤ a +ℤ pos 2 *ℤ b in
           let s0 : ℤ = base *ℤ pos 16384 in
           let s1 : ℤ = s0 +ℤ own *ℤ pos 4096 in
@@ -207,11 +207,11 @@ module _ (base own : ℤ) (f : mag base < 2 ^ 15) (g : mag own < 2 ^ 15) where
         fourth_rounded : Within 524288 524273 (pos 16 *ℤ base +ℤ own +ℤ pos 2 *ℤ a +ℤ pos 2 *ℤ b +ℤ pos 2 *ℤ c +ℤ pos 8)
         fourth_rounded = within_add 524288 524265 0 8 (pos 16 *ℤ base +ℤ own +ℤ pos 2 *ℤ a +ℤ pos 2 *ℤ b +ℤ pos 2 *ℤ c) (pos 8) fourth_sum (omega arith)
 
-        pub fourth-plain :
+        pub fourth_plain :
             round (L_mac (L_mac (L_mac (L_mac (L_deposit_h base) own (pos 2048)) a (pos 4096)) b (pos 4096)) c (pos 4096))
             ≡ shr_z (pos 16 *ℤ base +ℤ own +ℤ pos 2 *ℤ a +ℤ pos 2 *ℤ b +ℤ pos 2 *ℤ c +ℤ pos 8) 16
         unfolding L_deposit_h
-        fourth-plain =
+        fourth_plain =
             let x : ℤ = pos 16 *ℤ base +ℤ own +ℤ pos 2 *ℤ a +ℤ pos 2 *ℤ b +ℤ pos 2 *ℤ c in
             let s0 : ℤ = base *ℤ pos 65536 in
             let s1 : ℤ = s0 +ℤ own *ℤ pos 4096 in

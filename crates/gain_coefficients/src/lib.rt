@@ -3,7 +3,7 @@
 
 ghost use Rattle.std.specs.Prelude.{◌≡◌, cond, [], ◌∷◌};
 ghost use Rattle.std.specs.Int.Signed.{lt_z};
-ghost use Rattle.gain_coefficients.specs.Energies.{cut, negated, raised, yy_coefficient, xy_coefficient, levelled, on_one_scale, counted_coefficients};
+ghost use Rattle.gain_coefficients.specs.Energies.{cut, negated, raised, yy_coefficient, xy_coefficient, levelled, on_one_scale, coefficients, counted_coefficients};
 
 use gain_pitch::PitchGain;
 
@@ -45,6 +45,19 @@ pub fn counted_coefficients(
         target_innovation_clips: xz.clips,
         adaptive_innovation_clips: yz.clips,
     }
+}
+
+// The coefficients alone.
+pub fn coefficients(
+    target: &[i16; 40],
+    adaptive: &[i16; 40],
+    innovation: &[i16; 40],
+    gain: PitchGain,
+    code: i16,
+) -> [i32; 5]
+    ensures { result ≡ coefficients target.now adaptive.now innovation.now gain code }
+{
+    counted_coefficients(target, adaptive, innovation, gain, code).list
 }
 
 #[derive(Clone, Copy)]

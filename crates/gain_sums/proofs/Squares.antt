@@ -15,9 +15,9 @@ use Rattle.fixed.specs.Operators.{L_mult, L_mac_overflow}
 use Rattle.fixed.specs.Lists.{at}
 use Rattle.sums.specs.Plain.{squared}
 use Rattle.sums.proofs.Sums.{square_is, energy_from}
-use Rattle.gain_sums.specs.Sums.{sum, clips}
+use Rattle.gain_sums.specs.Sums.{sum, overflow, clips}
 
--- from a sum of n squares, s in all, and a term of the square q
+-- from a sum of n squares, s in all, and a term of the square q: whether the term is clipped
 step : (s q : ℕ) → leb (2 ^ 31) (2 * q) || leb (2 ^ 31) (min (1 + 2 * s) 2147483647 + min (2 * q) 2147483647) ≡ ltb 0 q && leb 1073741824 (s + q)
 step s q = go (ltb 0 q) refl (leb 1073741824 (s + q)) refl (leb (2 ^ 31) (2 * q)) refl
   where
@@ -32,6 +32,23 @@ step s q = go (ltb 0 q) refl (leb 1073741824 (s + q)) refl (leb (2 ^ 31) (2 * q)
     go true p true r false t = le-leb (2 ^ 31) whole (omega (arith, ltb-true 0 q p, leb-true 1073741824 (s + q) r))
     go true p false r true t = absurd (omega (arith, leb-false 1073741824 (s + q) r, leb-true (2 ^ 31) (2 * q) t))
     go true p false r false t = lt-leb (2 ^ 31) whole (omega (arith, leb-false 1073741824 (s + q) r))
+
+-- whether a sum of squares overflows: where the whole of it does
+whole : (s q : ℕ) → leb 2147483647 (2 * s) || (leb (2 ^ 31) (2 * q) || leb (2 ^ 31) (min (1 + 2 * s) 2147483647 + min (2 * q) 2147483647)) ≡ leb 2147483647 (2 * (s + q))
+whole s q = go (leb 2147483647 (2 * s)) refl (leb (2 ^ 31) (2 * q)) refl (leb (2 ^ 31) (min (1 + 2 * s) 2147483647 + min (2 * q) 2147483647)) refl
+  where
+    go : (a : Bool) → leb 2147483647 (2 * s) ≡ a → (b : Bool) → leb (2 ^ 31) (2 * q) ≡ b →
+        (c : Bool) → leb (2 ^ 31) (min (1 + 2 * s) 2147483647 + min (2 * q) 2147483647) ≡ c → a || (b || c) ≡ leb 2147483647 (2 * (s + q))
+    go true p b r c t = sym (le-leb 2147483647 (2 * (s + q)) (omega (arith, leb-true 2147483647 (2 * s) p)))
+    go false p true r c t = sym (le-leb 2147483647 (2 * (s + q)) (omega (arith, leb-true (2 ^ 31) (2 * q) r)))
+    go false p false r true t = sym (le-leb 2147483647 (2 * (s + q)) (omega (arith, leb-false 2147483647 (2 * s) p, leb-true (2 ^ 31) (min (1 + 2 * s) 2147483647 + min (2 * q) 2147483647) t)))
+    go false p false r false t = sym (lt-leb 2147483647 (2 * (s + q)) (omega (arith, leb-false 2147483647 (2 * s) p, leb-false (2 ^ 31) (2 * q) r, leb-false (2 ^ 31) (min (1 + 2 * s) 2147483647 + min (2 * q) 2147483647) t)))
+
+pub squares_overflow : (xs : List ℤ) (n : ℕ) → overflow xs xs n ≡ leb 2147483647 (2 * squared (at xs) n)
+unfolding overflow squared sum L_mac_overflow L_mult
+squares_overflow xs zero = refl
+squares_overflow xs (suc n) =
+    rw (squares_overflow xs n, energy_from 1 xs n (omega arith), square_is (at xs n)) (whole (squared (at xs) n) (nat_abs (at xs n) * nat_abs (at xs n)))
 
 pub squares_clip : (xs : List ℤ) (n : ℕ) →
     clips xs xs (suc n) ≡ clips xs xs n + cond (ltb 0 (nat_abs (at xs n) * nat_abs (at xs n)) && leb 1073741824 (squared (at xs) (suc n))) 1 0

@@ -229,6 +229,13 @@ pub extern "C" fn leaf_energy40(x: &[i16; 40]) -> i32
 }
 
 #[unsafe(no_mangle)]
+pub extern "C" fn leaf_dot40(x: &[i16; 40], y: &[i16; 40]) -> i32
+    ensures { result ≡ dot x.now y.now 40 }
+{
+    sums::dot40(x, y)
+}
+
+#[unsafe(no_mangle)]
 pub extern "C" fn leaf_energy_and_sum40(x: &[i16; 40], y: &[i16; 40]) -> EnergyAndSum
     ensures { (result.energy ≡ dot x.now x.now 40) × (result.sum ≡ dot x.now y.now 40) }
 {

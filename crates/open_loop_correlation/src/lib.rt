@@ -19,7 +19,8 @@ const LAGS: usize = 144;
 pub fn correlations(words: &[i16; 223]) -> [i32; 144]
     ensures { result ≡ by_lag words.now }
 {
-    if energy(words, 0, INPUT_SAMPLES) < 2147483647 {
+    let is_quiet = energy(words, 0, INPUT_SAMPLES) < 2147483647;
+    if is_quiet {
         return plain_table(words);
     }
     clipped_table(words)

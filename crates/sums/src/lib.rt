@@ -44,6 +44,16 @@ pub fn square(v: i16) -> u32
     fixed::exact(v, v) as u32
 }
 
+pub fn dot40(x: &[i16; 40], y: &[i16; 40]) -> i32
+    ensures { result ≡ dot x.now y.now 40 }
+{
+    let mut sum: i32 = 0;
+    for i in 0..40 {
+        sum = fixed::mac(sum, x[i], y[i]);
+    }
+    sum
+}
+
 #[repr(C)]
 #[derive(Clone, Copy)]
 pub struct EnergyAndSum {

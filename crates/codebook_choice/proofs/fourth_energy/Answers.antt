@@ -6,7 +6,7 @@ use lib.Signed.{mag}
 use mir.Syntax.{w16, w32}
 use mir.Val.{SFits}
 use Rattle.codebook_choice.proofs.Units.{Within, within_32}
-use Rattle.codebook_choice.proofs.Energies.{sum_ok, read_times, read_sum, sixteen_times, fourth_sum, ok_3, read_3, half_ok, word_ok, read_energy, fourth-plain}
+use Rattle.codebook_choice.proofs.Energies.{sum_ok, read_times, read_sum, sixteen_times, fourth_sum, ok_3, read_3, half_ok, word_ok, read_energy, fourth_plain}
 use Rattle.codebook_choice.proofs.fourth_energy.Goals as goal
 
 -- the whole sum, as it is and as the local holds it
@@ -40,4 +40,4 @@ returns c =
     let z = c.ranges in
     let e = read_sum (read_3 16 294912 294896 (sixteen_times c.args.base c.requires) (omega arith) (omega arith) (omega arith) z.base z.own z.a z.b) (read_times 2 (omega arith) z.c) (sum_fits z.base z.own z.a z.b z.c c.requires) in
     read_energy 524288 524265 e (sum_in z.base z.own z.a z.b z.c c.requires) (omega arith) (omega arith)
-    ∙ sym (fourth-plain c.args.base c.args.own z.base.sfits z.own.sfits c.args.a z.a.sfits c.args.b z.b.sfits c.args.c z.c.sfits c.requires)
+    ∙ sym (fourth_plain c.args.base c.args.own z.base.sfits z.own.sfits c.args.a z.a.sfits c.args.b z.b.sfits c.args.c z.c.sfits c.requires)

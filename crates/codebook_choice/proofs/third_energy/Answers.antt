@@ -4,7 +4,7 @@ use lib.IntN.{ℤ, pos, ◌+ℤ◌, ◌*ℤ◌}
 use mir.Syntax.{w16}
 use mir.Val.{SFits}
 use Rattle.codebook_choice.proofs.Units.{Within}
-use Rattle.codebook_choice.proofs.Energies.{four_times, in_3, ok_3, read_3, half_ok, word_ok, read_energy, third-plain}
+use Rattle.codebook_choice.proofs.Energies.{four_times, in_3, ok_3, read_3, half_ok, word_ok, read_energy, third_plain}
 use Rattle.codebook_choice.proofs.third_energy.Goals as goal
 
 -- the whole sum
@@ -25,4 +25,4 @@ pub returns : goal.returns
 returns c =
     let z = c.ranges in
     read_energy 294912 294903 (read_3 4 131072 131068 (four_times c.args.base z.base.sfits) (omega arith) (omega arith) (omega arith) z.base z.own z.a z.b) (sum_in z.base z.own z.a z.b) (omega arith) (omega arith)
-    ∙ sym (third-plain c.args.base c.args.own z.base.sfits z.own.sfits c.args.a z.a.sfits c.args.b z.b.sfits)
+    ∙ sym (third_plain c.args.base c.args.own z.base.sfits z.own.sfits c.args.a z.a.sfits c.args.b z.b.sfits)

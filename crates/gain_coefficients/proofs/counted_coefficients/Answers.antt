@@ -34,7 +34,7 @@ returns c =
       yz,
       got w16 c.add16-2.type_inv c.add16-2.ensures,
       to_z-of_z c.ranges.code,
-      c.dot-zz.ensures,
-      c.dot-xz.ensures,
-      c.dot-yz.ensures,
+      c.dot-zz.ensures.counted,
+      c.dot-xz.ensures.counted,
+      c.dot-yz.ensures.counted,
     )

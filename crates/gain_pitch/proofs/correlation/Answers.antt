@@ -11,7 +11,7 @@ pub returns-then-first-gt0 : goal.returns-then-first-gt0
 unfolding flagged_sum counted_sum
 returns-then-first-gt0 c =
     let f : to_z w32 (of_z w32 c.clipped.result.value) ≡ c.clipped.result.value = search rules in
-    rw (anew _ _ _ _ _ c.requires c.if-first-gt0.true, c.normalized.ensures, f, ap (λ (f : Counted). f.value) c.clipped.ensures, c.shifted40.ensures)
+    rw (anew _ _ _ _ _ c.requires c.if-first-gt0.true, c.normalized.ensures, f, ap (λ (f : Counted). f.value) c.clipped.ensures.counted, c.shifted40.ensures)
 
 pub returns : goal.returns
 unfolding counted_sum

@@ -27,6 +27,6 @@ returns c =
       ye,
       c.correlation-xy.ensures,
       c.energy-yy.ensures,
-      ap (λ (r : Counted). r.clips) c.square_sum-first_energy.ensures,
-      ap (λ (r : Counted). r.clips) c.dot-first_product.ensures,
+      ap (λ (r : Counted). r.clips) c.square_sum-first_energy.ensures.counted,
+      ap (λ (r : Counted). r.clips) c.dot-first_product.ensures.counted,
     )

@@ -7,4 +7,4 @@ use Rattle.open_loop_correlation.proofs.correlations.Goals as goal
 pub plain_table-requires : goal.plain_table-requires
 plain_table-requires c =
     let e = energy_within c.args.words.now 0 223 (omega arith) in
-    rw (got w32 c.energy.type_inv c.energy.ensures, e) at c.if-energy-lt2147483647.true
+    rw (got w32 c.energy-is_quiet.type_inv c.energy-is_quiet.ensures, e) at c.if-is_quiet.true
