@@ -5,7 +5,8 @@ use crate::{
     compare::{Function, function},
     inputs::{Inputs, Random},
     project::{
-        self, ACCEPTED, EnergyAndSum, LengthAnswer, leaf_dot40, leaf_energy_and_sum40, leaf_energy40,
+        self, ACCEPTED, EnergyAndSum, LengthAnswer, leaf_dot40, leaf_energy_and_sum40,
+        leaf_energy40,
     },
     published,
     speech::Speech,
