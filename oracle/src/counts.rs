@@ -101,6 +101,11 @@ impl<C: Counted> Found<C> {
         }
     }
 
+    /// Of these, the cases that are declared before another one.
+    pub fn before(&self, case: C) -> Self {
+        Self(self.0 & ((1 << case.place()) - 1), PhantomData)
+    }
+
     /// Whether the other has all of these.
     pub fn is_within(&self, other: &Self) -> bool {
         self.missing_in(other) == 0

@@ -75,6 +75,16 @@ impl Met {
         }
     }
 
+    /// Without the cases of the counts, which stand last in either list.
+    fn without_counts(&self) -> Self {
+        Self {
+            sources: self.sources.before(sources::Case::Clips),
+            pitch: self.pitch.before(pitch_cases::Case::EnergyOnce),
+            quantize: self.quantize.before(cases::Case::ProductOnce),
+            rows: self.rows,
+        }
+    }
+
     fn add(&mut self, other: &Self) {
         self.sources.add(&other.sources);
         self.pitch.add(&other.pitch);
@@ -100,32 +110,40 @@ impl Met {
     }
 }
 
-/// Calls that meet all cases and have all rows, each the one that meets most of those which none
-/// before it met. No feed is among them, so that the sample is the same without one.
+/// Calls that meet all cases and have all rows. No feed is among them, so that the sample is the same
+/// without one. The first are chosen as if no case were of the counts, so that they stay those that
+/// were recorded before there were any.
 fn calls() -> Vec<Call> {
     let drawn = (0..CALLS).map(|index| Drawn::at(index, &[]));
     let clipped = (0..CLIPPED).map(Drawn::of_clips);
-    let drawn: Vec<_> = drawn
-        .chain(clipped)
-        .map(|drawn| {
-            let met = Met::by(&drawn);
-            (drawn.call, met)
-        })
-        .collect();
+    let drawn: Vec<_> = drawn.chain(clipped).collect();
+    let all: Vec<_> = drawn.iter().map(Met::by).collect();
+    let first = &all[..CALLS as usize];
+    let plain: Vec<_> = first.iter().map(Met::without_counts).collect();
+    let mut chosen = choose(&plain, &mut Met::new());
     let mut met = Met::new();
-    let mut calls = Vec::new();
-    loop {
-        // Of those that meet as many the last, in any case.
-        let most = drawn.iter().max_by_key(|(_, by)| by.missing_in(&met));
-        let (call, by) = most.expect("a call");
-        if by.missing_in(&met) == 0 {
-            break;
-        }
-        met.add(by);
-        calls.push(call.clone());
+    for &place in &chosen {
+        met.add(&all[place]);
     }
+    chosen.extend(choose(&all, &mut met));
     met.assert_all();
-    calls
+    let call = |place: usize| drawn[place].call.clone();
+    chosen.into_iter().map(call).collect()
+}
+
+/// Of the calls that meet these the places of some that meet all, each the one that meets most of what
+/// none before it met; of those that meet as many the last, in any case.
+fn choose(calls: &[Met], met: &mut Met) -> Vec<usize> {
+    let mut places = Vec::new();
+    loop {
+        let missing = |&place: &usize| calls[place].missing_in(met);
+        let most = (0..calls.len()).max_by_key(missing).expect("a call");
+        if calls[most].missing_in(met) == 0 {
+            return places;
+        }
+        met.add(&calls[most]);
+        places.push(most);
+    }
 }
 
 struct Sample(Recorded);
