@@ -361,7 +361,8 @@ MR74_LAYOUT(sizeof(void *) == 8 && sizeof(size_t) == 8 && sizeof(bool) == 1);
 MR74_LAYOUT(sizeof(mr74_length_answer) == 16);
 MR74_LAYOUT(sizeof(mr74_open_loop_answer) == 24);
 MR74_LAYOUT(sizeof(mr74_pitch_state) == 8 && offsetof(mr74_pitch_state, start) == 6);
-MR74_LAYOUT(sizeof(mr74_pitch_answer) == 32 && offsetof(mr74_pitch_answer, start) == 28);
+MR74_LAYOUT(sizeof(mr74_pitch_answer) == 32 && offsetof(mr74_pitch_answer, next) == 26 &&
+            offsetof(mr74_pitch_answer, start) == 28);
 MR74_LAYOUT(sizeof(mr74_sharpening_gain) == 2);
 MR74_LAYOUT(sizeof(mr74_pulses_answer) == 24);
 MR74_LAYOUT(sizeof(mr74_places_answer) == 48);
@@ -372,7 +373,8 @@ MR74_LAYOUT(sizeof(mr74_gain_answer) == 32 && offsetof(mr74_gain_answer, negativ
 MR74_LAYOUT(sizeof(mr74_logarithm) == 4);
 MR74_LAYOUT(sizeof(mr74_power_answer) == 24 && offsetof(mr74_power_answer, value) == 16);
 MR74_LAYOUT(sizeof(mr74_record_answer) == 40 && offsetof(mr74_record_answer, from) == 24);
-MR74_LAYOUT(sizeof(mr74_step_answer) == 56 && offsetof(mr74_step_answer, reader_start) == 50);
+MR74_LAYOUT(sizeof(mr74_step_answer) == 56 && offsetof(mr74_step_answer, reader_next) == 48 &&
+            offsetof(mr74_step_answer, reader_start) == 50);
 #undef MR74_LAYOUT
 
 #ifdef __cplusplus

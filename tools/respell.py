@@ -97,7 +97,14 @@ def main(top):
 
 
 if __name__ == "__main__":
-    if len(sys.argv) > 2 or sys.argv[1:] in (["--help"], ["-h"]):
+    if sys.argv[1:] in (["--help"], ["-h"]):
         print(__doc__.strip())
-        raise SystemExit(0 if len(sys.argv) == 2 else 2)
-    main(sys.argv[1] if len(sys.argv) == 2 else ".")
+        raise SystemExit(0)
+    if len(sys.argv) > 2:
+        print("respell: too many arguments: tools/respell.py --help", file=sys.stderr)
+        raise SystemExit(2)
+    folder = sys.argv[1] if len(sys.argv) == 2 else "."
+    if not os.path.isdir(os.path.join(folder, "crates")):
+        print(f"respell: there is no folder crates/ in {folder}: tools/respell.py --help", file=sys.stderr)
+        raise SystemExit(2)
+    main(folder)

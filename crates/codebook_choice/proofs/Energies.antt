@@ -42,6 +42,9 @@ sum_of x y = to_z w32 (of_z w32 (x +ℤ y))
 pub read_word : {a : ℤ} → SFits w16 a → word_of a ≡ a
 read_word f = read w32 (to_z-of_z f) (fits_16_32 f)
 
+pub times_ok : (j : ℕ) {a : ℤ} → j ≤ 16 → SFits w16 a → SFits w32 (pos j *ℤ word_of a)
+times_ok j l f = rw (read_word f) (times_fits j l f)
+
 pub read_times : (j : ℕ) {a : ℤ} → j ≤ 16 → SFits w16 a → times_of j a ≡ pos j *ℤ a
 read_times j l f = read w32 (ap (λ (y : ℤ). pos j *ℤ y) (read_word f)) (times_fits j l f)
 
@@ -87,8 +90,14 @@ module _ (q l h : ℕ) {base own a b : ℤ} (w : Within l h (pos q *ℤ base)) (
       within_32 (l + 32768 + 65536 + 65536) (h + 32767 + 65534 + 65534) (pos q *ℤ base +ℤ own +ℤ pos 2 *ℤ a +ℤ pos 2 *ℤ b)
       (in_3 q l h base own a b w g.sfits i.sfits j.sfits) (omega arith) (omega arith)
 
+  pub ok_1 : SFits w32 (times_of q base +ℤ word_of own)
+  ok_1 = sum_ok (read_times q small f) (read_word g) fits_1
+
   read_1 : sum_of (times_of q base) (word_of own) ≡ pos q *ℤ base +ℤ own
   read_1 = read_sum (read_times q small f) (read_word g) fits_1
+
+  pub ok_2 : SFits w32 (sum_of (times_of q base) (word_of own) +ℤ times_of 2 a)
+  ok_2 = sum_ok read_1 (read_times 2 (omega arith) i) fits_2
 
   read_2 : sum_of (sum_of (times_of q base) (word_of own)) (times_of 2 a) ≡ pos q *ℤ base +ℤ own +ℤ pos 2 *ℤ a
   read_2 = read_sum read_1 (read_times 2 (omega arith) i) fits_2

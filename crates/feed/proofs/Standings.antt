@@ -54,6 +54,16 @@ module _ (feed : List ℕ) (at kind next : ℕ) where
       let w = whole_is e in
       rw e (length-take-le (body_length kind) (drop (at + 1) feed) (simp length-drop (omega arith)))
 
+-- a kind at most 6 that is none of 0 to 5
+above_2 : (k : ℕ) → (k ≡ 0 → ⊥) → (k ≡ 1 → ⊥) → (k ≡ 2 → ⊥) → 3 ≤ k
+above_2 k a b c = omega arith
+
+above_5 : (k : ℕ) → 3 ≤ k → k ≤ 6 → (k ≡ 3 → ⊥) → (k ≡ 4 → ⊥) → (k ≡ 5 → ⊥) → k ≡ 6
+above_5 k l h a b c = omega arith
+
+pub last_kind : (k : ℕ) → k ≤ 6 → (k ≡ 0 → ⊥) → (k ≡ 1 → ⊥) → (k ≡ 2 → ⊥) → (k ≡ 3 → ⊥) → (k ≡ 4 → ⊥) → (k ≡ 5 → ⊥) → k ≡ 6
+last_kind k h a b c d e f = above_5 k (above_2 k a b c) h d e f
+
 -- 01, number 10: a kind 1 to 6 as the very last byte has none of its body's bytes
 has_body : (kind : ℕ) → 1 ≤ kind → kind ≤ 6 → 1 ≤ body_length kind
 unfolding lengths

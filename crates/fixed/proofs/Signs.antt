@@ -4,11 +4,12 @@ use mathlib.Core.Bool.{Bool, true, false, not}
 use Prim.Native.Nat.{ℕ, zero, suc, ◌+◌, ◌-◌, ◌*◌, ◌/◌, ◌%◌, ◌^◌, ◌<◌, ◌≤◌}
 use native.Mathlib.Nat.{div-add-mod', mod-lt, mod-eq_of_lt}
 use native.Mathlib.Omega.{arith}
-use lib.Dec.{ltb, leb}
+use lib.Dec.{T, ltb, leb}
 use lib.IntN.{ℤ, pos, negsuc, neg_ℤ, nat_abs, sub_ℕ, neg_ℤ-neg_ℤ, ◌+ℤ◌, ◌-ℤ◌, ◌*ℤ◌}
-use lib.Signed.{mag, lt_z, le_z, shr_z}
+use lib.Signed.{mag, lt_z, le_z, non_neg, shr_z}
 use mir.Syntax.{Width, w16}
-use mir.Val.{SFits, hbits}
+use mir.Val.{SFits, Fits, hbits}
+use mir.ValLaws.{half_full}
 use borrow.Author.Tests.{ltb-true, ltb-false, le-ltb, lt-ltb, le-leb, lt-leb}
 use Rattle.fixed.specs.Clip.{clip}
 use Rattle.fixed.specs.Operators.{remainder, extract_l, positive_or}
@@ -46,6 +47,15 @@ neg_is (negsuc n) e = refl
 pub pos_is : (z : ℤ) → lt_z z (pos 0) ≡ false → z ≡ pos (mag z)
 pos_is (pos n) e = refl
 pos_is (negsuc n) e = contradiction (sym e)
+
+-- -1 - z of a negative z
+pub complement : (z : ℤ) → lt_z z (pos 0) ≡ true → negsuc 0 -ℤ z ≡ pos (mag z)
+complement z e = rw (neg_is z e) (sub_le (suc (mag z)) 1 (omega arith) ∙ ap pos (omega arith))
+
+-- a number that is not negative, cast to an unsigned type of its width
+pub cast_pos : (w : Width) (z : ℤ) → SFits w z → lt_z z (pos 0) ≡ false → T (non_neg z) × Fits w (nat_abs z)
+cast_pos w (pos n) f e = (tt, record { fits = half_full w f.sfits })
+cast_pos w (negsuc n) f e = contradiction (sym e)
 
 -- |z| by the sign, clipped for every width
 pub abs_below : (z : ℤ) → lt_z z (pos 0) ≡ true → neg_ℤ z ≡ pos (nat_abs z)
@@ -105,6 +115,14 @@ even_fits w (negsuc n) h f =
     odd : (m k : ℕ) → 0 < k → m < 2 ^ k → m % 2 ≡ 0 → m + 1 < 2 ^ k
     odd m (suc k) h l e = omega (arith, l, e)
     odd m zero h l e = absurd (omega arith)
+
+-- |z| from the magnitude
+pub abs_mag_below : (z : ℤ) → lt_z z (pos 0) ≡ true → mag z + 1 ≡ nat_abs z
+abs_mag_below z e = rw (neg_is z e) (omega arith)
+
+pub abs_mag_above : (z : ℤ) → lt_z z (pos 0) ≡ false → mag z ≡ nat_abs z
+abs_mag_above (pos n) e = refl
+abs_mag_above (negsuc n) e = contradiction (sym e)
 
 -- a number that is not below 1
 pub positive : {w : Width} (z : ℤ) → lt_z z (pos 1) ≡ false → SFits w z → (0 < nat_abs z) × (nat_abs z < 2 ^ hbits w)

@@ -16,7 +16,7 @@ use Rattle.fixed.specs.Operators.{L_add, L_mult, L_mac, L_mac_overflow, beyond}
 use Rattle.fixed.specs.Lists.{at, L_sum}
 use Rattle.fixed.proofs.Clips.{clip_fits, clip_id, contradiction}
 use Rattle.gain_sums.specs.declared.Counted.{Counted}
-use Rattle.gain_sums.specs.Sums.{sum, overflow, clips, counted_sum}
+use Rattle.gain_sums.specs.Sums.{sum, overflow, flagged_sum, clips, counted_sum}
 use Rattle.gain_sums.specs.Opens.{gain_sums_opens}
 use Rattle.gain_sums.specs.Statement.{Unclipped, EveryCount, Examples}
 
@@ -104,10 +104,10 @@ every_count xs ys n =
       zero_term = λ e. not_counted xs ys n (zero_term xs ys n e);
     }
 
--- the old flag, of an answer with value and count
-pub told_flag : (xs ys : List ℤ) (n : ℕ) (r : Counted) → r ≡ counted_sum xs ys n → overflow xs ys n ≡ ltb 0 r.clips
-unfolding counted_sum
-told_flag xs ys n r e = flag_is xs ys n ∙ ap (λ (s : Counted). ltb 0 s.clips) (sym e)
+-- the sum with its flag, of an answer with value and count
+pub told_flagged : (xs ys : List ℤ) (n : ℕ) (r : Counted) → r ≡ counted_sum xs ys n → record { value = r.value; overflow = ltb 0 r.clips } ≡ flagged_sum xs ys n
+unfolding counted_sum flagged_sum
+told_flagged xs ys n r e = rw (e, flag_is xs ys n)
 
 -- a test as a byte
 pub bit_is : (t : Bool) → bool_byte t ≡ cond t 1 0

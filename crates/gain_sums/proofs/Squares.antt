@@ -10,7 +10,7 @@ use lib.IntN.{ℤ, pos, negsuc, nat_abs}
 use mir.Syntax.{w16}
 use mir.Val.{SFits, to_z, of_z}
 use mir.Facts.{to_z-of_z}
-use borrow.Author.Tests.{le-leb, lt-leb, lt-ltb, leb-true, leb-false, ltb-true, ltb-false, eqb-true, eqb-false}
+use borrow.Author.Tests.{le-leb, lt-leb, le-ltb, lt-ltb, leb-true, leb-false, ltb-true, ltb-false, eqb-true, eqb-false}
 use Rattle.fixed.specs.Operators.{L_mult, L_mac_overflow}
 use Rattle.fixed.specs.Lists.{at}
 use Rattle.sums.specs.Plain.{squared}
@@ -50,6 +50,15 @@ squares_overflow xs zero = refl
 squares_overflow xs (suc n) =
     rw (squares_overflow xs n, energy_from 1 xs n (omega arith), square_is (at xs n)) (whole (squared (at xs) n) (nat_abs (at xs n) * nat_abs (at xs n)))
 
+-- an energy from 0 on is at the clip where one from 1 on overflows
+pub clipped_energy : (n : ℕ) → leb 2147483647 n ≡ ltb 2147483646 (min n 2147483647)
+clipped_energy n = go (leb 2147483647 n) refl
+  where
+    go : (t : Bool) → leb 2147483647 n ≡ t → t ≡ ltb 2147483646 (min n 2147483647)
+    go true q = sym (lt-ltb 2147483646 (min n 2147483647) (omega (arith, leb-true 2147483647 n q)))
+    go false q = sym (le-ltb 2147483646 (min n 2147483647) (omega (arith, leb-false 2147483647 n q)))
+
+-- where a term more is clipped
 pub squares_clip : (xs : List ℤ) (n : ℕ) →
     clips xs xs (suc n) ≡ clips xs xs n + cond (ltb 0 (nat_abs (at xs n) * nat_abs (at xs n)) && leb 1073741824 (squared (at xs) (suc n))) 1 0
 unfolding clips squared sum L_mac_overflow L_mult

@@ -5,7 +5,7 @@
 ghost use Rattle.std.specs.Prelude.{true, ◌≡◌, ℕ, suc, ◌*◌, ◌^◌, ◌<◌, ◌≤◌, ltb, nat_abs};
 ghost use Rattle.fixed.specs.Lists.{at};
 ghost use Rattle.sums.specs.Plain.{squared};
-ghost use Rattle.gain_sums.specs.Sums.{sum, overflow, clips, counted_sum};
+ghost use Rattle.gain_sums.specs.Sums.{sum, flagged_sum, clips, counted_sum};
 
 const GREATEST: i32 = 2147483647;
 
@@ -22,7 +22,7 @@ pub struct Counted {
 // Of a list with itself: no term is negative, so the whole tells whether one is clipped.
 pub fn square_sum(words: &[i16; 40]) -> Counted
     ensures counted { result ≡ counted_sum words.now words.now 40 }
-    ensures flag { overflow words.now words.now 40 ≡ ltb 0 result.clips }
+    ensures flagged { record { value = result.value; overflow = ltb 0 result.clips } ≡ flagged_sum words.now words.now 40 }
 {
     let value = square_value(words);
     if value < GREATEST {
@@ -69,7 +69,7 @@ fn clipped_from(words: &[i16; 40], first: usize) -> u8
 
 pub fn dot(left: &[i16; 40], right: &[i16; 40]) -> Counted
     ensures counted { result ≡ counted_sum left.now right.now 40 }
-    ensures flag { overflow left.now right.now 40 ≡ ltb 0 result.clips }
+    ensures flagged { record { value = result.value; overflow = ltb 0 result.clips } ≡ flagged_sum left.now right.now 40 }
 {
     if are_quiet(left, right) {
         return Counted {
@@ -90,7 +90,7 @@ pub fn dot_value(left: &[i16; 40], right: &[i16; 40]) -> i32
 // The same without a look whether a step can be clipped.
 pub fn clipped(left: &[i16; 40], right: &[i16; 40]) -> Counted
     ensures counted { result ≡ counted_sum left.now right.now 40 }
-    ensures flag { overflow left.now right.now 40 ≡ ltb 0 result.clips }
+    ensures flagged { record { value = result.value; overflow = ltb 0 result.clips } ≡ flagged_sum left.now right.now 40 }
 {
     let mut value: i32 = 1;
     let mut clips: u8 = 0;

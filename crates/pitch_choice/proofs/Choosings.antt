@@ -12,7 +12,7 @@ use borrow.Author.Tests.{le-leb, ltb-true, ltb-false}
 use Rattle.fixed.specs.Lists.{at}
 use Rattle.fixed.proofs.Bounds.{either}
 use Rattle.fixed.proofs.Choices.{best_in}
-use Rattle.pitch.specs.declared.Fraction.TheVariants.{Zero}
+use Rattle.pitch.specs.declared.Fraction.TheVariants.{MinusThird, Zero}
 use Rattle.pitch.proofs.Indexings.{in_thirds}
 use Rattle.pitch_choice.specs.Choices.{Interpol_6, step_value, best_lag, best_step, settled, step_of, chosen, choose}
 
@@ -28,6 +28,13 @@ module _ (cs : List ℤ) (lag : ℕ) where
   step_late zero h = absurd (omega arith)
   step_late (suc zero) h = absurd (omega arith)
   step_late (suc (suc k)) h = let e : 2 * k ≡ 2 * (suc (suc k) - 2) = omega arith in ap (Interpol_6 cs lag) e
+
+pub settled_last : (lag step : ℕ) → 4 ≤ step → settled lag step ≡ record { samples = lag + 1; fraction = MinusThird }
+settled_last lag zero h = absurd (omega arith)
+settled_last lag (suc zero) h = absurd (omega arith)
+settled_last lag (suc (suc zero)) h = absurd (omega arith)
+settled_last lag (suc (suc (suc zero))) h = absurd (omega arith)
+settled_last lag (suc (suc (suc (suc k)))) h = refl
 
 module _ (cs : List ℤ) where
   pub best_lag_in : (start n : ℕ) → (start ≤ best_lag cs start n) × (best_lag cs start n ≤ start + n)

@@ -24,13 +24,18 @@ moved_at fs = between (λ j. at fs (j - 1)) (λ j. pos 0) 1 40
 abbrev pub alike_at : Bool → List ℤ → ℤ → List ℤ → ℕ → ℤ
 alike_at l hs sample fs k = add (extract_h (L_shl (L_mult sample (at hs k)) (pos (cond l 1 3)))) (moved_at fs k)
 
--- past the first it is the update's word
-pub update_past : (l : Bool) (hs : List ℤ) (sample : ℤ) (fs : List ℤ) (k : ℕ) → 1 ≤ k → k < 40 → alike_at l hs sample fs k ≡ update_at l hs sample fs k
+-- a word of an update past the first
+pub update_suc : (l : Bool) (hs : List ℤ) (sample : ℤ) (fs : List ℤ) (j : ℕ) → 1 ≤ j →
+    update_at l hs sample fs j ≡ add (extract_h (L_shl (L_mult sample (at hs j)) (pos (cond l 1 3)))) (at fs (j - 1))
 unfolding update_at
-update_past l hs sample fs zero h b = absurd (omega arith)
-update_past l hs sample fs (suc k) h b =
-    let e : suc k - 1 ≡ k = omega arith in
-    rw (le-leb 1 (suc k) h, lt-ltb (suc k) 40 b) (ap (λ (j : ℕ). add (extract_h (L_shl (L_mult sample (at hs (suc k))) (pos (cond l 1 3)))) (at fs j)) e)
+update_suc l hs sample fs zero h = absurd (omega arith)
+update_suc l hs sample fs (suc j) h =
+    let e : j ≡ suc j - 1 = omega arith in
+    ap (λ (k : ℕ). add (extract_h (L_shl (L_mult sample (at hs (suc j))) (pos (cond l 1 3)))) (at fs k)) e
+
+-- it is the word that is filtered like all others
+pub update_past : (l : Bool) (hs : List ℤ) (sample : ℤ) (fs : List ℤ) (k : ℕ) → 1 ≤ k → k < 40 → alike_at l hs sample fs k ≡ update_at l hs sample fs k
+update_past l hs sample fs k h b = rw (update_suc l hs sample fs k h, le-leb 1 k h, lt-ltb k 40 b)
 
 -- so asked, it is answered
 pub norm_corr : (exc target hs : List ℤ) (low end : ℕ) → length exc ≡ 194 → length target ≡ 40 → length hs ≡ 40 → low < end → end ≤ 148 →

@@ -2,6 +2,7 @@
 -- no product of theirs and no sum of these is clipped, and the clipped sum is the plain one.
 use mathlib.Core.Path.{◌≡◌, refl, subst}
 use mathlib.Core.Bool.{Bool, true, false}
+use mathlib.Core.List.{List}
 use Prim.Native.Nat.{ℕ, zero, suc, ◌+◌, ◌-◌, ◌*◌, ◌^◌, ◌<◌, ◌≤◌, min}
 use native.Mathlib.Nat.{add-zero, add-suc, mul-le-mul, le-mul_of_pos_right, le_refl}
 use native.Mathlib.Omega.{arith}
@@ -10,10 +11,11 @@ use lib.IntN.{ℤ, pos, nat_abs, ◌+ℤ◌, ◌*ℤ◌, +ℤ_idr}
 use lib.Signed.{lt_z}
 use borrow.Author.Tests.{ltb-true, ltb-false, leb-true, leb-false}
 use Rattle.fixed.specs.Operators.{L_add, L_mult}
-use Rattle.fixed.specs.Lists.{L_sum}
+use Rattle.fixed.specs.Lists.{at, L_sum, dot}
 use Rattle.fixed.proofs.Bounds.{abs_add, abs_mul}
 use Rattle.sums.specs.Plain.{squared, plain, weighed}
 use Rattle.sums.proofs.Plain.{double_add, unclipped, plain_mult}
+use Rattle.sums.proofs.Sums.{energy_is}
 
 -- ---- the law of clipping
 -- a number against itself and more
@@ -146,3 +148,7 @@ plain_silent x y n (suc j) e = rw (add-suc n j, plain_silent x y n j e, e (n + j
 -- ---- the caller's test of an energy
 pub not_clipped : (a : ℕ) → lt_z (pos (min (2 * a) 2147483647)) (pos 2147483647) ≡ true → a < 2 ^ 30
 not_clipped a e = omega (arith, ltb-true (min (2 * a) 2147483647) 2147483647 e)
+
+-- so of a list whose energy is not clipped
+pub quiet_energy : (xs : List ℤ) (n : ℕ) → lt_z (dot xs xs n) (pos 2147483647) ≡ true → squared (at xs) n < 2 ^ 30
+quiet_energy xs n e = not_clipped (squared (at xs) n) (rw (energy_is xs n) at e)

@@ -9,6 +9,9 @@ ghost use Rattle.sums.specs.Convolutions.{convolution};
 // A half sum below this, doubled, is a long.
 const ROOM: u64 = 1073741824;
 
+// And so are half the squares of an energy.
+const LEAST_CLIPPED: u64 = 1073741824;
+
 // ---- Sums.
 
 pub fn energy40(x: &[i16; 40]) -> i32
@@ -32,7 +35,7 @@ pub fn squares40(x: &[i16; 40]) -> u64
 pub fn held_energy(squares: u64) -> i32
     ensures { result ≡ pos (min (2 * squares) 2147483647) }
 {
-    if squares < ROOM {
+    if squares < LEAST_CLIPPED {
         return (2 * squares) as i32;
     }
     2147483647

@@ -8,6 +8,12 @@ use borrow.Author.Tests.{eq-eqb}
 use Rattle.fixed.specs.Lists.{at, part}
 use Rattle.fixed.proofs.Lists.{length_tabulate}
 use Rattle.synthesis_filter.specs.Synthesis.{with_past, Syn_filt, synthesis}
+use Rattle.synthesis_filter.proofs.Samples.{put_out_length}
+
+-- ---- what is put out
+pub past_length : (cs xs past : List ℤ) → length (with_past cs xs past) ≡ 50
+unfolding with_past
+past_length cs xs past = put_out_length cs xs past 40
 
 pub syn_length : (cs xs past : List ℤ) → length (Syn_filt cs xs past) ≡ 40
 unfolding Syn_filt part

@@ -10,7 +10,7 @@ use Rattle.fixed.specs.Operators.{L_mac, L_mac_overflow, L_mac_flagged}
 use Rattle.fixed.specs.Lists.{at, L_sum}
 use Rattle.fixed.specs.declared.Flagged.{Flagged}
 use Rattle.gain_sums.specs.Sums.{sum, clips as clips_of, counted_sum}
-use Rattle.gain_sums.proofs.Counts.{clips_le, told_flag, bit_is, byte_fits}
+use Rattle.gain_sums.proofs.Counts.{clips_le, told_flagged, bit_is, byte_fits}
 use Rattle.gain_sums.proofs.clipped.Goals as goal
 
 pub loop-i-init : goal.loop-i-init
@@ -46,5 +46,5 @@ returns-clause-counted c =
     let e : c.loop-i.i ≡ 40 = omega arith in
     rw (c.loop-i.invariant.value_is, c.loop-i.invariant.clips_are, e)
 
-pub returns-clause-flag : goal.returns-clause-flag
-returns-clause-flag c = told_flag c.args.left.now c.args.right.now 40 _ (returns-clause-counted c)
+pub returns-clause-flagged : goal.returns-clause-flagged
+returns-clause-flagged c = told_flagged c.args.left.now c.args.right.now 40 _ (returns-clause-counted c)

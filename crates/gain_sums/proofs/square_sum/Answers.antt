@@ -7,7 +7,7 @@ use Rattle.fixed.proofs.Bounds.{got}
 use Rattle.sums.specs.Plain.{squared}
 use Rattle.sums.proofs.Sums.{energy_from}
 use Rattle.gain_sums.specs.Sums.{sum, counted_sum}
-use Rattle.gain_sums.proofs.Counts.{told_flag}
+use Rattle.gain_sums.proofs.Counts.{told_flagged}
 use Rattle.gain_sums.proofs.Squares.{quiet_squares}
 use Rattle.gain_sums.proofs.square_sum.Goals as goal
 
@@ -20,13 +20,13 @@ returns-then-value-lt-GREATEST-clause-counted c =
     let t = rw (v, energy_from 1 xs 40 (omega arith)) at c.if-value-lt-GREATEST.true in
     rw (v, quiet_squares xs 40 (omega (arith, ltb-true (min (1 + s) 2147483647) 2147483647 t)))
 
-pub returns-then-value-lt-GREATEST-clause-flag : goal.returns-then-value-lt-GREATEST-clause-flag
-returns-then-value-lt-GREATEST-clause-flag c =
-    told_flag c.args.words.now c.args.words.now 40 _ (returns-then-value-lt-GREATEST-clause-counted c)
+pub returns-then-value-lt-GREATEST-clause-flagged : goal.returns-then-value-lt-GREATEST-clause-flagged
+returns-then-value-lt-GREATEST-clause-flagged c =
+    told_flagged c.args.words.now c.args.words.now 40 _ (returns-then-value-lt-GREATEST-clause-counted c)
 
 pub returns-clause-counted : goal.returns-clause-counted
 unfolding counted_sum
 returns-clause-counted c = rw (got w32 c.square_value-value.type_inv c.square_value-value.ensures, c.clipped_squares.ensures)
 
-pub returns-clause-flag : goal.returns-clause-flag
-returns-clause-flag c = told_flag c.args.words.now c.args.words.now 40 _ (returns-clause-counted c)
+pub returns-clause-flagged : goal.returns-clause-flagged
+returns-clause-flagged c = told_flagged c.args.words.now c.args.words.now 40 _ (returns-clause-counted c)
