@@ -23,7 +23,6 @@ past_end z true unfit = go (leb (2 ^ 31) (mag z)) refl
     go false e = absurd (unfit (record { sfits = leb-false (2 ^ 31) (mag z) e }))
 past_end z false f = sym (lt-leb (2 ^ 31) (mag z) f.sfits)
 
--- the two tests of a wider sum, for every width
 or_false : (b : Bool) → b || false ≡ b
 or_false true = refl
 or_false false = refl
@@ -36,6 +35,7 @@ past m n h = go (ltb (m - 1) n) refl
     go true q = sym (le-leb m n (omega (arith, ltb-true (m - 1) n q)))
     go false q = sym (lt-leb m n (omega (arith, ltb-false (m - 1) n q)))
 
+-- the two tests of a wider sum, for every width
 pub past_ends : (k : ℕ) (z : ℤ) → lt_z (pos (2 ^ k - 1)) z || lt_z z (negsuc (2 ^ k - 1)) ≡ beyond k z
 past_ends k (pos n) = or_false _ ∙ past (2 ^ k) n (pow_pos k)
 past_ends k (negsuc n) = past (2 ^ k) n (pow_pos k)

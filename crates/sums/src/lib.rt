@@ -9,7 +9,7 @@ ghost use Rattle.sums.specs.Convolutions.{convolution};
 // A half sum below this, doubled, is a long.
 const ROOM: u64 = 1073741824;
 
-// And so are half the squares of an energy.
+// Squares below this, doubled, are a long: the same number, but the limit of an energy, which an edit of the other must not move.
 const LEAST_CLIPPED: u64 = 1073741824;
 
 // ---- Sums.
