@@ -1,8 +1,7 @@
 // 01, 'Bench points': those that are compared and not proved. `stdout` has what 01 says of each.
 #![tactic(auto)]
 
-use logarithm::Power;
-use pitch::{OpenLoop, OpenLoopLag};
+use pitch::OpenLoopLag;
 use std::io;
 
 // A line that can't be written is missing from the output, which is compared.
@@ -28,16 +27,16 @@ fn root(rt: &impl Print, v: i32) -> io::Result<()> {
 
 fn open_loop(rt: &impl Print, lag: u16) -> io::Result<()> {
     let answer = match OpenLoopLag::try_new(lag) {
-        OpenLoop::Lag(_) => "passes",
-        OpenLoop::Refused(_) => "is refused",
+        Ok(_) => "passes",
+        Err(_) => "is refused",
     };
     println!(rt; "open-loop lag {lag} {answer}")
 }
 
 fn power(rt: &impl Print, exponent: u8) -> io::Result<()> {
     let answer = match logarithm::pow2(exponent, 0) {
-        Power::Value(_) => "passes",
-        Power::Refused(_) => "does not",
+        Ok(_) => "passes",
+        Err(_) => "does not",
     };
     println!(rt; "pow2 exponent {exponent} {answer}")
 }

@@ -1,10 +1,8 @@
 -- 01, 'Pulse reader (TS 26.073): 8191 or −8192': decode_4i40_17bits.
 use Rattle.std.specs.Prelude.{cond, List, [], ◌∷◌, ℕ, ◌+◌, ◌*◌, ◌/◌, ◌%◌, eqb, ℤ, pos, negsuc, get_or, set, replicate}
-use Rattle.refusal.specs.Refused.{Told, values, turned_down}
+use Rattle.refusal.specs.Refused.{values}
 use Rattle.refusal.specs.Checks.{Outcome, unless_refused, length_is, position_word, sign_word}
 use Rattle.codebook.specs.declared.Places.{Places}
-use Rattle.codebook.specs.declared.PulseReading.{PulseReading}
-use Rattle.codebook.specs.declared.PulseReading.TheVariants.{Places as ReadPlaces, Refused}
 use Rattle.codebook.specs.Gray.{dgray}
 
 -- the place in a track whose Gray number the lowest three bits are
@@ -32,11 +30,6 @@ pulses_at p signs =
     p.last (pulse_of (signs / 8))
 
 -- ---- the reader
--- an answer as 01 gives it: the four places
-abbrev pub told_places : PulseReading → Told Places
-told_places (ReadPlaces p) = values p
-told_places (Refused r) = turned_down r
-
 -- decode_4i40_17bits behind 01's checks: the answer, and the lent list after it
 unfoldable pub decode : ℕ → ℕ → List ℤ → Outcome Places (List ℤ)
 decode positions signs out =

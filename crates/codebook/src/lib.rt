@@ -2,17 +2,15 @@
 #![tactic(auto)]
 
 ghost use Rattle.std.specs.Prelude.{◌≡◌, ◌<◌, ◌^◌, length};
-ghost use Rattle.codebook.specs.Gray.{dgray};
 ghost use Rattle.codebook.specs.Words.{number_of, position_bits, slot, sign_bit};
-ghost use Rattle.codebook.specs.Readers.{place_of, pulse_of, places_of, pulses_at, told_places, decode};
+ghost use Rattle.refusal.specs.Refused.{told};
+ghost use Rattle.codebook.specs.Readers.{place_of, pulse_of, places_of, pulses_at, decode};
 
 use refusal::Refusal;
 
 const SUBFRAME_SAMPLES: usize = 40;
 
 const TRACKS: usize = 5;
-
-const POSITIONS_PER_TRACK: usize = 8;
 
 const MAX_POSITIONS: u16 = 8191;
 
@@ -27,7 +25,7 @@ const POSITIVE_Q13: i16 = 8191;
 const NEGATIVE_Q13: i16 = -8192;
 
 // The pulses' places: tracks 0, 1 and 2, then track 3 or 4.
-#[derive(Clone, Copy)]
+#[derive(Clone, Copy, Debug, PartialEq, Eq)]
 pub struct Places {
     pub first: usize,
     pub second: usize,
@@ -35,67 +33,58 @@ pub struct Places {
     pub last: usize,
 }
 
-#[derive(Clone, Copy)]
-pub enum PulseReading {
-    Places(Places),
-    Refused(Refusal),
-}
-
 // The samples are lent by the caller.
-pub fn read(pulse_positions: u16, pulse_signs: u16, samples_q13: &mut [i16]) -> PulseReading
-    ensures { (told_places result ≡ (decode pulse_positions pulse_signs samples_q13.old).answer)
+#[tactic(auto, unfolding(crate::specs::Readers::decode))]
+pub fn read(
+    pulse_positions: u16,
+    pulse_signs: u16,
+    samples_q13: &mut [i16],
+) -> Result<Places, Refusal>
+    ensures { (told result ≡ (decode pulse_positions pulse_signs samples_q13.old).answer)
         × (samples_q13.new ≡ (decode pulse_positions pulse_signs samples_q13.old).after) }
 {
-    if samples_q13.len() != SUBFRAME_SAMPLES {
-        return PulseReading::Refused(Refusal::Length(samples_q13.len()));
-    }
+    refusal::of_length::<SUBFRAME_SAMPLES>(samples_q13)?;
     if MAX_POSITIONS < pulse_positions {
-        return PulseReading::Refused(Refusal::Positions(pulse_positions));
+        return Err(Refusal::Positions(pulse_positions));
     }
     if MAX_SIGNS < pulse_signs {
-        return PulseReading::Refused(Refusal::Signs(pulse_signs));
+        return Err(Refusal::Signs(pulse_signs));
     }
     let places = places_in(pulse_positions);
     write(places, pulse_signs, samples_q13);
-    PulseReading::Places(places)
+    Ok(places)
 }
 
 fn write(places: Places, signs: u16, samples: &mut [i16])
     requires { (length samples.old ≡ 40) × (places.first < 40) × (places.second < 40) × (places.third < 40) × (places.last < 40) }
     ensures { samples.new ≡ pulses_at places signs }
 {
-    for i in 0..SUBFRAME_SAMPLES {
-        samples[i] = 0;
-    }
-    let first = places.first;
-    let second = places.second;
-    let third = places.third;
-    let last = places.last;
-    samples[first] = pulse(signs);
-    samples[second] = pulse(signs / 2);
-    samples[third] = pulse(signs / 4);
-    samples[last] = pulse(signs / 8);
+    samples.fill(0);
+    samples[places.first] = pulse(signs);
+    samples[places.second] = pulse(signs / 2);
+    samples[places.third] = pulse(signs / 4);
+    samples[places.last] = pulse(signs / 8);
 }
 
 fn places_in(positions: u16) -> Places
     ensures { result ≡ places_of positions }
 {
-    let table = INVERSE_GRAY;
     let last_track = 3 + (positions / 512 % 2) as usize;
     Places {
-        first: place(positions, 0, &table),
-        second: place(positions / 8, 1, &table),
-        third: place(positions / 64, 2, &table),
-        last: place(positions / 1024, last_track, &table),
+        first: place(positions, 0),
+        second: place(positions / 8, 1),
+        third: place(positions / 64, 2),
+        last: place(positions / 1024, last_track),
     }
 }
 
 // The place in a track whose Gray number the lowest three bits are.
-fn place(bits: u16, track: usize, table: &[u8; 8]) -> usize
-    requires { (table.now ≡ dgray) × (track < 5) }
+#[tactic(auto, unfolding(crate::specs::Gray::dgray))]
+fn place(bits: u16, track: usize) -> usize
+    requires { track < 5 }
     ensures { result ≡ place_of bits track }
 {
-    table[(bits % 8) as usize] as usize * TRACKS + track
+    INVERSE_GRAY[(bits % 8) as usize] as usize * TRACKS + track
 }
 
 // The pulse whose sign the lowest bit is: set means positive.
@@ -110,6 +99,7 @@ fn pulse(bits: u16) -> i16
 
 // ---- What a pulse adds to the two words.
 
+#[tactic(auto, using(crate::proofs::ReadBack::number_lt), unfolding(crate::specs::Words::in_track))]
 pub fn position_bits(place: usize) -> u16
     ensures { result ≡ position_bits place }
 {
@@ -124,14 +114,11 @@ pub fn position_bits(place: usize) -> u16
 }
 
 // 0 past the last place.
+#[tactic(auto, unfolding(crate::specs::Gray::gray))]
 fn gray_number(place: usize) -> u16
     ensures { result ≡ number_of place }
 {
-    if place / TRACKS < POSITIONS_PER_TRACK {
-        let table = GRAY;
-        return table[place / TRACKS];
-    }
-    0
+    GRAY.get(place / TRACKS).copied().unwrap_or(0)
 }
 
 pub fn sign_bit(positive: bool, place: usize) -> u16

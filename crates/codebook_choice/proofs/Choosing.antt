@@ -48,11 +48,8 @@ module _ (cs : List ℤ) (m : List (List ℤ)) where
   unfolding fourth_at step_to
   fourth_in first second d two h = best_in (fourth_at cs m first second two) d 8 (λ p. refl) h (omega arith)
 
-  pub second_lt : (first b : ℕ) → b < 5 → (best_step (second_at cs m first) b 8).place < 40
-  second_lt first b h = (second_in first b h).1
-
-  pub third_lt : (first c : ℕ) (one : Step) → c < 5 → (best_step (third_at cs m first one) c 8).place < 40
-  third_lt first c one h = (third_in first c one h).1
+  pub fourth_lt : (first second d : ℕ) (two : Step) → d < 5 → (best_step (fourth_at cs m first second two) d 8).place < 40
+  fourth_lt first second d two h = (fourth_in first second d two h).1
 
   trial_in : (p a b c d : ℕ) → OfTrack a p → b < 5 → c < 5 → d < 5 → InTracks a b c d (trial_from cs m p b c d)
   unfolding trial_from last_steps last_step of_steps

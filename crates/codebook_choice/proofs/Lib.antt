@@ -5,4 +5,3 @@ pub mod Energies
 pub mod Tracks
 pub mod Starting
 pub mod Trials
-pub mod Places

@@ -4,7 +4,7 @@ use mathlib.Core.Bool.{true, false, cond}
 use mathlib.Core.List.{List}
 use Prim.Native.Nat.{ℕ, ◌+◌, ◌*◌, ◌<◌, ◌≤◌}
 use native.Mathlib.Omega.{arith}
-use lib.IntN.{ℤ, pos}
+use lib.IntN.{ℤ}
 use lib.ListN.{length, get_or, set, replicate, length-set, length-replicate, get_or-replicate}
 use lib.Seq.{get_or-set_same, get_or-set_other}
 use borrow.Author.Count.{below_more}
@@ -12,10 +12,6 @@ use Rattle.fixed.specs.Lists.{tabulate}
 use Rattle.fixed.proofs.Lists.{filled_all}
 use Rattle.codebook_target.specs.Starts.{may_start}
 use Rattle.codebook_steps.specs.declared.Step.{Step}
-
--- what a list of steps holds past its end
-abbrev pub zero_step : Step
-zero_step = record { place = 0; sum = pos 0; square = pos 0; energy = pos 0 }
 
 module _ (left : List ℤ) (a : ℕ) (f : ℕ → Step) (none : Step) where
   abbrev pub chosen : ℕ → Step

@@ -7,9 +7,8 @@ use native.Mathlib.Omega.{arith}
 use lib.Dec.{eqb}
 use lib.IntN.{ℤ}
 use borrow.Author.Tests.{ne_eqb}
-use Rattle.fixed.specs.Operators.{add, mult}
-use Rattle.fixed.specs.Lists.{at, tabulate}
-use Rattle.fixed.proofs.Lists.{at_tabulate}
+use Rattle.fixed.specs.Operators.{add}
+use Rattle.fixed.specs.Lists.{at}
 use Rattle.codebook_steps.specs.declared.Step.{Step}
 use Rattle.codebook_steps.specs.Steps.{exceeds, better, none_in}
 use Rattle.codebook_choice.specs.Choices.{best_step}
@@ -48,13 +47,8 @@ module _ (cs squares energies : List ℤ) (sum : ℤ) (track : ℕ) where
   unfolding best_step better
   number_less n found square energy t e h = let d = number_of track n t in rw (d, e) h
 
--- the lists may be those of steps f
-pub best_of : (f : ℕ → Step) (cs : List ℤ) (sum : ℤ) (e : ℕ → ℤ) (track : ℕ) → track < 5 →
-    ((p : ℕ) → f p ≡ record { place = p; sum = add sum (at cs p); square = mult (add sum (at cs p)) (add sum (at cs p)); energy = (f p).energy }) →
-    ((n : ℕ) → n < 8 → e n ≡ (f (track + 5 * n)).energy) →
-    best_step (candidate cs (tabulate (λ n. mult (add sum (at cs (track + 5 * n))) (add sum (at cs (track + 5 * n)))) 8) (tabulate e 8) sum track) track 8 ≡ best_step f track 8
-best_of f cs sum e track t is en =
-    best_same _ f track 8
-    (λ k h.
-    let d = number_of track k t in
-    rw (is (track + 5 * k), d, at_tabulate (λ n. mult (add sum (at cs (track + 5 * n))) (add sum (at cs (track + 5 * n)))) (lib.IntN.pos 0) 8 k h, at_tabulate e (lib.IntN.pos 0) 8 k h, en k h))
+  -- the lists may be those of steps f
+  pub best_of : (f : ℕ → Step) → track < 5 →
+      ((n : ℕ) → n < 8 → f (track + 5 * n) ≡ record { place = track + 5 * n; sum = add sum (at cs (track + 5 * n)); square = at squares n; energy = at energies n }) →
+      best_step candidate track 8 ≡ best_step f track 8
+  best_of f t is = best_same candidate f track 8 (λ k h. let d = number_of track k t in rw (is k h, d))

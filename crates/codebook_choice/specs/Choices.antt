@@ -8,6 +8,10 @@ use Rattle.codebook_steps.specs.declared.Step.{Step}
 use Rattle.codebook_steps.specs.declared.Trial.{Trial}
 use Rattle.codebook_steps.specs.Steps.{step_to, better, none_in, kept}
 
+-- what a list of steps holds past its end
+abbrev pub zero_step : Step
+zero_step = record { place = 0; sum = pos 0; square = pos 0; energy = pos 0 }
+
 -- the best of the first n places of a track
 unfoldable pub best_step : (ℕ → Step) → ℕ → ℕ → Step
 best_step f track zero = none_in track

@@ -7,10 +7,12 @@ ghost use Rattle.fixed.specs.Operators.{add, mult, round, L_mult, L_mac, L_depos
 ghost use Rattle.fixed.specs.Lists.{at, tabulate};
 ghost use Rattle.codebook_target.specs.Starts.{may_start};
 ghost use Rattle.codebook_matrix.specs.Matrices.{cell};
+ghost use Rattle.codebook_steps.specs.declared.Step.{Step};
 ghost use Rattle.codebook_steps.specs.Steps.{none_in, kept};
-ghost use Rattle.codebook_choice.specs.Choices.{second_at, third_at, fourth_at, best_step, last_step, permutation, permutations, search_4i40};
+ghost use Rattle.codebook_choice.specs.Choices.{second_at, third_at, fourth_at, best_step, last_step, permutation, permutations, search_4i40, zero_step};
 
-use codebook_steps::{Step, Trial};
+use codebook_steps::{Rated, Ratio, Step, Trial};
+use std::marker::Model;
 
 const TRACKS: usize = 5;
 
@@ -20,10 +22,98 @@ const EIGHTH_Q15: i16 = 4096;
 
 const SIXTEENTH_Q15: i16 = 2048;
 
+// One of the 40 places.
+#[derive(Clone, Copy)]
+struct Place {
+    index: usize,
+}
+
+impl Model for Place {
+    ghost use Rattle.std.specs.Prelude.{ℕ, ◌<◌};
+
+    ghost Value = { ℕ };
+
+    ghost view = { λ p. p.index };
+
+    ghost invariant = { λ p. p.index < 40 };
+
+    ghost inverse = { λ n. record { index = n } };
+}
+
+// One of the five tracks.
+#[derive(Clone, Copy)]
+struct Track {
+    number: usize,
+}
+
+impl Model for Track {
+    ghost use Rattle.std.specs.Prelude.{ℕ, ◌<◌};
+
+    ghost Value = { ℕ };
+
+    ghost view = { λ t. t.number };
+
+    ghost invariant = { λ t. t.number < 5 };
+
+    ghost inverse = { λ n. record { number = n } };
+}
+
+impl Track {
+    fn place(self, n: usize) -> Place
+        requires { n < 8 }
+        ensures { result ≡ self + 5 * n }
+    {
+        Place {
+            index: self.number + TRACKS * n,
+        }
+    }
+}
+
+// A step to one of the 40 places.
+#[derive(Clone, Copy)]
+struct Placed {
+    step: Step,
+}
+
+impl Model for Placed {
+    ghost use Rattle.std.specs.Prelude.{◌<◌};
+    ghost use Rattle.codebook_steps.specs.declared.Step.{Step};
+
+    ghost Value = { Step };
+
+    ghost view = { λ s. s.step };
+
+    ghost invariant = { λ s. s.step.place < 40 };
+
+    ghost inverse = { λ s. record { step = s } };
+}
+
+impl Placed {
+    fn place(self) -> Place
+        ensures { result ≡ self.place }
+    {
+        Place {
+            index: self.step.place,
+        }
+    }
+
+    fn step(self) -> Step
+        ensures { result ≡ self }
+    {
+        self.step
+    }
+}
+
 // The table comes by value.
+#[tactic(auto, unfolding(crate::specs::Choices::search_4i40))]
 pub fn select(correlation: &[i16; 40], table: [[i16; 40]; 40], left: &[i16; 40]) -> Trial
     ensures { result ≡ search_4i40 correlation.now table left.now }
 {
+    let lists = Lists {
+        correlation,
+        table: &table,
+        left,
+    };
     let held = Trial {
         first: 0,
         second: 1,
@@ -32,269 +122,284 @@ pub fn select(correlation: &[i16; 40], table: [[i16; 40]; 40], left: &[i16; 40])
         square: -1,
         energy: 1,
     };
-    permutations(
-        permutations(held, correlation, &table, left, 3),
-        correlation,
-        &table,
-        left,
-        4,
-    )
+    let with_3 = lists.permutations(held, Track { number: 3 });
+    lists.permutations(with_3, Track { number: 4 })
 }
 
-// The cyclic permutations of four tracks: each starts once.
-fn permutations(
-    held: Trial,
-    correlation: &[i16; 40],
-    table: &[[i16; 40]; 40],
-    left: &[i16; 40],
-    last: usize,
-) -> Trial
-    requires { last < 5 }
-    ensures { result ≡ permutations correlation.now table.now left.now last held }
-{
-    let from_0 = permutation(held, correlation, table, left, 0, 1, 2, last);
-    let from_last = permutation(from_0, correlation, table, left, last, 0, 1, 2);
-    let from_2 = permutation(from_last, correlation, table, left, 2, last, 0, 1);
-    permutation(from_2, correlation, table, left, 1, 2, last, 0)
+// What the choice reads: the correlations without their signs, their table, and which places may start.
+#[derive(Clone, Copy)]
+struct Lists<'a> {
+    correlation: &'a [i16; 40],
+    table: &'a [[i16; 40]; 40],
+    left: &'a [i16; 40],
 }
 
-// The starts of a permutation go side by side, a pulse at a time: no choice waits for that of another start.
-fn permutation(
-    held: Trial,
-    correlation: &[i16; 40],
-    table: &[[i16; 40]; 40],
-    left: &[i16; 40],
-    a: usize,
-    b: usize,
-    c: usize,
-    d: usize,
-) -> Trial
-    requires { (a < 5) × (b < 5) × (c < 5) × (d < 5) }
-    ensures { result ≡ permutation correlation.now table.now left.now a b c d held 8 }
-{
-    let ones = seconds(correlation, table, left, a, b);
-    let twos = thirds(correlation, table, left, a, ones, c);
-    let mut best = held;
-    for n in 0..POSITIONS_PER_TRACK {
-        let one = ones[n];
-        let two = twos[n];
-        best = started(best, correlation, table, left, a + TRACKS * n, one, two, d);
+impl<'a> Lists<'a> {
+    // The cyclic permutations of four tracks: each starts once.
+    #[tactic(auto, unfolding(crate::specs::Choices::permutations))]
+    fn permutations(self, held: Trial, last: Track) -> Trial
+        ensures { result ≡ permutations self.entry.correlation.now self.entry.table.now self.entry.left.now last held }
+    {
+        let zero = Track { number: 0 };
+        let one = Track { number: 1 };
+        let two = Track { number: 2 };
+        let from_0 = self.permutation(held, zero, one, two, last);
+        let from_last = self.permutation(from_0, last, zero, one, two);
+        let from_2 = self.permutation(from_last, two, last, zero, one);
+        self.permutation(from_2, one, two, last, zero)
     }
-    best
-}
 
-// From each start of track a the best place of track b.
-fn seconds(
-    correlation: &[i16; 40],
-    table: &[[i16; 40]; 40],
-    left: &[i16; 40],
-    a: usize,
-    b: usize,
-) -> [Step; 8]
-    requires { (a < 5) × (b < 5) }
-    ensures { result ≡ tabulate (λ n. cond (may_start left.now (a + 5 * n)) (best_step (second_at correlation.now table.now (a + 5 * n)) b 8) (none_in b)) 8 }
-{
-    let mut steps = [codebook_steps::none_in(b); 8];
-    for n in 0..POSITIONS_PER_TRACK {
-        if 0 <= left[a + TRACKS * n] {
-            steps[n] = second(correlation, table, a + TRACKS * n, b);
+    // The starts of a permutation go side by side, a pulse at a time: no choice waits for that of another start.
+    #[tactic(auto, unfolding(crate::specs::Choices::permutation))]
+    fn permutation(self, held: Trial, a: Track, b: Track, c: Track, d: Track) -> Trial
+        ensures { result ≡ permutation self.entry.correlation.now self.entry.table.now self.entry.left.now a b c d held 8 }
+    {
+        let ones = self.seconds(a, b);
+        let twos = self.thirds(a, &ones, c);
+        let mut best = held;
+        for n in 0..POSITIONS_PER_TRACK {
+            best = self.started(best, a.place(n), ones[n], twos[n], d);
+        }
+        best
+    }
+
+    // From each start of track a the best place of track b. A loop: a list of steps made by from_fn is copied.
+    fn seconds(self, a: Track, b: Track) -> [Placed; 8]
+        ensures { result ≡ tabulate (λ n. cond (may_start self.entry.left.now (a + 5 * n)) (best_step (second_at self.entry.correlation.now self.entry.table.now (a + 5 * n)) b 8) (none_in b)) 8 }
+    {
+        let mut steps = [none_in(b); 8];
+        for n in 0..POSITIONS_PER_TRACK {
+            let first = a.place(n);
+            if self.may_start(first) {
+                steps[n] = self.second(first, b);
+            }
+        }
+        steps
+    }
+
+    // And after it the best place of track c.
+    fn thirds(self, a: Track, ones: &[Placed; 8], c: Track) -> [Placed; 8]
+        ensures { result ≡ tabulate (λ n. cond (may_start self.entry.left.now (a + 5 * n)) (best_step (third_at self.entry.correlation.now self.entry.table.now (a + 5 * n) (get_or ones.now n zero_step)) c 8) (none_in c)) 8 }
+    {
+        let mut steps = [none_in(c); 8];
+        for n in 0..POSITIONS_PER_TRACK {
+            let first = a.place(n);
+            if self.may_start(first) {
+                steps[n] = self.third(first, ones[n], c);
+            }
+        }
+        steps
+    }
+
+    fn started(self, held: Trial, first: Place, one: Placed, two: Placed, track: Track) -> Trial
+        ensures { result ≡ cond (may_start self.entry.left.now first) (kept held (last_step self.entry.correlation.now self.entry.table.now first one two track)) held }
+    {
+        if self.may_start(first) {
+            return codebook_steps::better(held, self.finished(first, one, two, track));
+        }
+        held
+    }
+
+    #[tactic(auto, unfolding(crate::specs::Choices::of_steps, crate::specs::Choices::last_step))]
+    fn finished(self, first: Place, one: Placed, two: Placed, track: Track) -> Trial
+        ensures { result ≡ last_step self.entry.correlation.now self.entry.table.now first one two track }
+    {
+        let three = self.fourth(first, one.place(), two, track).step();
+        Trial {
+            first: first.index,
+            second: one.step().place,
+            third: two.step().place,
+            fourth: three.place,
+            square: three.square,
+            energy: three.energy,
         }
     }
-    steps
-}
 
-// And after it the best place of track c.
-fn thirds(
-    correlation: &[i16; 40],
-    table: &[[i16; 40]; 40],
-    left: &[i16; 40],
-    a: usize,
-    ones: [Step; 8],
-    c: usize,
-) -> [Step; 8]
-    requires { (a < 5) × (c < 5) × ((n : ℕ) → n < 8 → (get_or ones n (record { place = 0; sum = pos 0; square = pos 0; energy = pos 0 })).place < 40) }
-    ensures { result ≡ tabulate (λ n. cond (may_start left.now (a + 5 * n)) (best_step (third_at correlation.now table.now (a + 5 * n) (get_or ones n (record { place = 0; sum = pos 0; square = pos 0; energy = pos 0 }))) c 8) (none_in c)) 8 }
-{
-    let mut steps = [codebook_steps::none_in(c); 8];
-    for n in 0..POSITIONS_PER_TRACK {
-        if 0 <= left[a + TRACKS * n] {
-            let one = ones[n];
-            steps[n] = third(correlation, table, a + TRACKS * n, one, c);
+    // ---- A pulse more: the eight squares and the eight energies of a track, then the choice among its places.
+
+    fn second(self, first: Place, track: Track) -> Placed
+        ensures { result ≡ best_step (second_at self.entry.correlation.now self.entry.table.now first) track 8 }
+    {
+        let sum = self.correlation_at(first);
+        let squares = self.squares(sum, track);
+        let energies = std::array::from_fn(|n| self.second_energy_at(first, track.place(n)));
+        self.best(sum, &squares, &energies, track)
+    }
+
+    fn third(self, first: Place, one: Placed, track: Track) -> Placed
+        ensures { result ≡ best_step (third_at self.entry.correlation.now self.entry.table.now first one) track 8 }
+    {
+        let sum = one.step().sum;
+        let squares = self.squares(sum, track);
+        let energies = std::array::from_fn(|n| self.third_energy_at(first, one, track.place(n)));
+        self.best(sum, &squares, &energies, track)
+    }
+
+    // An energy up to 9/16, which three pulses of a normalised impulse have at most, leaves the fourth room: nothing is clipped.
+    fn fourth(self, first: Place, second: Place, two: Placed, track: Track) -> Placed
+        ensures { result ≡ best_step (fourth_at self.entry.correlation.now self.entry.table.now first second two) track 8 }
+    {
+        let energy = two.step().energy;
+        if (-18432 <= energy) & (energy <= 18431) {
+            return self.plain_fourth(first, second, two, track);
+        }
+        self.clipped_fourth(first, second, two, track)
+    }
+
+    fn plain_fourth(self, first: Place, second: Place, two: Placed, track: Track) -> Placed
+        requires { mag two.energy < 18432 }
+        ensures { result ≡ best_step (fourth_at self.entry.correlation.now self.entry.table.now first second two) track 8 }
+    {
+        let sum = two.step().sum;
+        let squares = self.squares(sum, track);
+        let energies = std::array::from_fn(|n| self.fourth_energy_at(
+            first,
+            second,
+            two,
+            track.place(n),
+        ));
+        self.best(sum, &squares, &energies, track)
+    }
+
+    #[tactic(auto, unfolding(crate::specs::Choices::second_at, codebook_steps::specs::Steps::step_to))]
+    fn second_energy_at(self, first: Place, place: Place) -> i16
+        ensures { result ≡ (second_at [] self.entry.table.now first place).energy }
+    {
+        second_energy(
+            self.cell(first, first),
+            self.cell(place, place),
+            self.cell(first, place),
+        )
+    }
+
+    #[tactic(auto, unfolding(crate::specs::Choices::third_at, codebook_steps::specs::Steps::step_to))]
+    fn third_energy_at(self, first: Place, one: Placed, place: Place) -> i16
+        ensures { result ≡ (third_at [] self.entry.table.now first one place).energy }
+    {
+        third_energy(
+            one.step().energy,
+            self.cell(place, place),
+            self.cell(one.place(), place),
+            self.cell(first, place),
+        )
+    }
+
+    #[tactic(auto, unfolding(crate::specs::Choices::fourth_at, codebook_steps::specs::Steps::step_to))]
+    fn fourth_energy_at(self, first: Place, second: Place, two: Placed, place: Place) -> i16
+        requires { mag two.energy < 18432 }
+        ensures { result ≡ (fourth_at [] self.entry.table.now first second two place).energy }
+    {
+        fourth_energy(
+            two.step().energy,
+            self.cell(place, place),
+            self.cell(two.place(), place),
+            self.cell(second, place),
+            self.cell(first, place),
+        )
+    }
+
+    // The eight in order: one that exceeds the one held replaces it. Where none exceeds the first held, -1 over 1, none is found.
+    // A number past the last stands for none: with an Option the choice takes 1.4 times as long.
+    fn best(self, sum: i16, squares: &[i16; 8], energies: &[i16; 8], track: Track) -> Placed
+        ensures { (f : ℕ → Step) → ((n : ℕ) → n < 8 → f (track + 5 * n) ≡ record { place = track + 5 * n; sum = add sum (at self.entry.correlation.now (track + 5 * n)); square = at squares.now n; energy = at energies.now n }) → result ≡ best_step f track 8 }
+    {
+        let none = codebook_steps::none_in(track.number);
+        let mut found = POSITIONS_PER_TRACK;
+        let mut held = none.ratio();
+        for n in 0..POSITIONS_PER_TRACK {
+            let next = Ratio {
+                square: squares[n],
+                energy: energies[n],
+            };
+            if next.exceeds(held) {
+                found = n;
+                held = next;
+            }
+        }
+        if found == POSITIONS_PER_TRACK {
+            return Placed { step: none };
+        }
+        let place = track.place(found);
+        Placed {
+            step: Step {
+                place: place.index,
+                sum: self.total(sum, place),
+                square: held.square,
+                energy: held.energy,
+            },
         }
     }
-    steps
-}
 
-fn started(
-    held: Trial,
-    correlation: &[i16; 40],
-    table: &[[i16; 40]; 40],
-    left: &[i16; 40],
-    first: usize,
-    one: Step,
-    two: Step,
-    d: usize,
-) -> Trial
-    requires { (first < 40) × (one.place < 40) × (two.place < 40) × (d < 5) }
-    ensures { result ≡ cond (may_start left.now first) (kept held (last_step correlation.now table.now first one two d)) held }
-{
-    if 0 <= left[first] {
-        return codebook_steps::kept(held, finished(correlation, table, first, one, two, d));
+    fn squares(self, sum: i16, track: Track) -> [i16; 8]
+        ensures { result ≡ tabulate (λ n. mult (add sum (at self.entry.correlation.now (track + 5 * n))) (add sum (at self.entry.correlation.now (track + 5 * n)))) 8 }
+    {
+        std::array::from_fn(|n| self.square(sum, track.place(n)))
     }
-    held
-}
 
-fn finished(
-    correlation: &[i16; 40],
-    table: &[[i16; 40]; 40],
-    first: usize,
-    one: Step,
-    two: Step,
-    d: usize,
-) -> Trial
-    requires { (first < 40) × (one.place < 40) × (two.place < 40) × (d < 5) }
-    ensures { result ≡ last_step correlation.now table.now first one two d }
-{
-    let three = fourth(correlation, table, first, one.place, two, d);
-    Trial {
-        first,
-        second: one.place,
-        third: two.place,
-        fourth: three.place,
-        square: three.square,
-        energy: three.energy,
+    fn square(self, sum: i16, place: Place) -> i16
+        ensures { result ≡ mult (add sum (at self.entry.correlation.now place)) (add sum (at self.entry.correlation.now place)) }
+    {
+        let total = self.total(sum, place);
+        fixed::fractional(total, total)
+    }
+
+    #[tactic(auto, unfolding(crate::specs::Choices::best_step))]
+    fn clipped_fourth(self, first: Place, second: Place, two: Placed, track: Track) -> Placed
+        ensures { result ≡ best_step (fourth_at self.entry.correlation.now self.entry.table.now first second two) track 8 }
+    {
+        let mut held = codebook_steps::none_in(track.number);
+        for n in 0..POSITIONS_PER_TRACK {
+            held = codebook_steps::better(held, self.fourth_at(first, second, two, track.place(n)));
+        }
+        Placed { step: held }
+    }
+
+    #[tactic(auto, unfolding(crate::specs::Choices::fourth_at))]
+    fn fourth_at(self, first: Place, second: Place, two: Placed, place: Place) -> Step
+        ensures { result ≡ fourth_at self.entry.correlation.now self.entry.table.now first second two place }
+    {
+        let base = fixed::deposit_high(two.step().energy);
+        let own = fixed::mac(base, self.cell(place, place), SIXTEENTH_Q15);
+        let third = fixed::mac(own, self.cell(two.place(), place), EIGHTH_Q15);
+        let second_too = fixed::mac(third, self.cell(second, place), EIGHTH_Q15);
+        let energy = fixed::mac(second_too, self.cell(first, place), EIGHTH_Q15);
+        codebook_steps::step_to(place.index, self.total(two.step().sum, place), energy)
+    }
+
+    // ---- The lists at a place.
+
+    fn may_start(self, place: Place) -> bool
+        ensures { result ≡ may_start self.entry.left.now place }
+    {
+        0 <= self.left[place.index]
+    }
+
+    fn correlation_at(self, place: Place) -> i16
+        ensures { result ≡ at self.entry.correlation.now place }
+    {
+        self.correlation[place.index]
+    }
+
+    fn total(self, sum: i16, place: Place) -> i16
+        ensures { result ≡ add sum (at self.entry.correlation.now place) }
+    {
+        fixed::add(sum, self.correlation_at(place))
+    }
+
+    fn cell(self, i: Place, j: Place) -> i16
+        ensures { result ≡ cell self.entry.table.now i j }
+    {
+        self.table[i.index][j.index]
     }
 }
 
-// ---- A pulse more: the eight squares and the eight energies of a track, then the choice among them.
-
-fn second(correlation: &[i16; 40], table: &[[i16; 40]; 40], first: usize, track: usize) -> Step
-    requires { (first < 40) × (track < 5) }
-    ensures { result ≡ best_step (second_at correlation.now table.now first) track 8 }
+#[tactic(auto, unfolding(codebook_steps::specs::Steps::none_in))]
+fn none_in(track: Track) -> Placed
+    ensures { result ≡ none_in track }
 {
-    let sum = correlation[first];
-    let squares = squares(correlation, sum, track);
-    let energies = second_energies(table, first, track);
-    best(correlation, &squares, &energies, sum, track)
-}
-
-fn third(
-    correlation: &[i16; 40],
-    table: &[[i16; 40]; 40],
-    first: usize,
-    one: Step,
-    track: usize,
-) -> Step
-    requires { (first < 40) × (one.place < 40) × (track < 5) }
-    ensures { result ≡ best_step (third_at correlation.now table.now first one) track 8 }
-{
-    let squares = squares(correlation, one.sum, track);
-    let energies = third_energies(table, first, one, track);
-    best(correlation, &squares, &energies, one.sum, track)
-}
-
-// An energy up to 9/16, which three pulses of a normalised impulse have at most, leaves the fourth room: nothing is clipped.
-fn fourth(
-    correlation: &[i16; 40],
-    table: &[[i16; 40]; 40],
-    first: usize,
-    second: usize,
-    two: Step,
-    track: usize,
-) -> Step
-    requires { (first < 40) × (second < 40) × (two.place < 40) × (track < 5) }
-    ensures { result ≡ best_step (fourth_at correlation.now table.now first second two) track 8 }
-{
-    if (-18432 <= two.energy) & (two.energy <= 18431) {
-        return plain_fourth(correlation, table, first, second, two, track);
+    Placed {
+        step: codebook_steps::none_in(track.number),
     }
-    clipped_fourth(correlation, table, first, second, two, track)
-}
-
-fn plain_fourth(
-    correlation: &[i16; 40],
-    table: &[[i16; 40]; 40],
-    first: usize,
-    second: usize,
-    two: Step,
-    track: usize,
-) -> Step
-    requires { (first < 40) × (second < 40) × (two.place < 40) × (track < 5) × (mag two.energy < 18432) }
-    ensures { result ≡ best_step (fourth_at correlation.now table.now first second two) track 8 }
-{
-    let squares = squares(correlation, two.sum, track);
-    let energies = fourth_energies(table, first, second, two, track);
-    best(correlation, &squares, &energies, two.sum, track)
-}
-
-fn squares(correlation: &[i16; 40], sum: i16, track: usize) -> [i16; 8]
-    requires { track < 5 }
-    ensures { result ≡ tabulate (λ n. mult (add sum (at correlation.now (track + 5 * n))) (add sum (at correlation.now (track + 5 * n)))) 8 }
-{
-    let mut words = [0i16; 8];
-    for n in 0..POSITIONS_PER_TRACK {
-        let total = fixed::add16(sum, correlation[track + TRACKS * n]);
-        words[n] = fixed::fractional(total, total);
-    }
-    words
-}
-
-fn second_energies(table: &[[i16; 40]; 40], first: usize, track: usize) -> [i16; 8]
-    requires { (first < 40) × (track < 5) }
-    ensures { result ≡ tabulate (λ n. (second_at [] table.now first (track + 5 * n)).energy) 8 }
-{
-    let base = cell(table, first, first);
-    let mut words = [0i16; 8];
-    for n in 0..POSITIONS_PER_TRACK {
-        let place = track + TRACKS * n;
-        words[n] = second_energy(base, cell(table, place, place), cell(table, first, place));
-    }
-    words
-}
-
-fn third_energies(table: &[[i16; 40]; 40], first: usize, one: Step, track: usize) -> [i16; 8]
-    requires { (first < 40) × (one.place < 40) × (track < 5) }
-    ensures { result ≡ tabulate (λ n. (third_at [] table.now first one (track + 5 * n)).energy) 8 }
-{
-    let second = one.place;
-    let base = one.energy;
-    let mut words = [0i16; 8];
-    for n in 0..POSITIONS_PER_TRACK {
-        let place = track + TRACKS * n;
-        words[n] = third_energy(
-            base,
-            cell(table, place, place),
-            cell(table, second, place),
-            cell(table, first, place),
-        );
-    }
-    words
-}
-
-fn fourth_energies(
-    table: &[[i16; 40]; 40],
-    first: usize,
-    second: usize,
-    two: Step,
-    track: usize,
-) -> [i16; 8]
-    requires { (first < 40) × (second < 40) × (two.place < 40) × (track < 5) × (mag two.energy < 18432) }
-    ensures { result ≡ tabulate (λ n. (fourth_at [] table.now first second two (track + 5 * n)).energy) 8 }
-{
-    let third = two.place;
-    let base = two.energy;
-    let mut words = [0i16; 8];
-    for n in 0..POSITIONS_PER_TRACK {
-        let place = track + TRACKS * n;
-        words[n] = fourth_energy(
-            base,
-            cell(table, place, place),
-            cell(table, third, place),
-            cell(table, second, place),
-            cell(table, first, place),
-        );
-    }
-    words
 }
 
 // Sums of words by 1/4 and 1/2: nothing is clipped, so one shift and one rounding do.
@@ -315,83 +420,4 @@ fn fourth_energy(base: i16, own: i16, a: i16, b: i16, c: i16) -> i16
     ensures { result ≡ round (L_mac (L_mac (L_mac (L_mac (L_deposit_h base) own (pos 2048)) a (pos 4096)) b (pos 4096)) c (pos 4096)) }
 {
     ((16 * base as i32 + own as i32 + 2 * a as i32 + 2 * b as i32 + 2 * c as i32 + 8) >> 4) as i16
-}
-
-// The eight in order: one that exceeds the one held replaces it. Where none exceeds the first held, -1 over 1, none is found.
-fn best(
-    correlation: &[i16; 40],
-    squares: &[i16; 8],
-    energies: &[i16; 8],
-    sum: i16,
-    track: usize,
-) -> Step
-    requires { track < 5 }
-    ensures { result ≡ best_step (λ p. record { place = p; sum = add sum (at correlation.now p); square = at squares.now (p / 5); energy = at energies.now (p / 5) }) track 8 }
-{
-    let mut found = POSITIONS_PER_TRACK;
-    let mut square: i16 = -1;
-    let mut energy: i16 = 1;
-    for n in 0..POSITIONS_PER_TRACK {
-        if codebook_steps::exceeds(squares[n], energies[n], square, energy) {
-            found = n;
-            square = squares[n];
-            energy = energies[n];
-        }
-    }
-    if found == POSITIONS_PER_TRACK {
-        return codebook_steps::none_in(track);
-    }
-    Step {
-        place: track + TRACKS * found,
-        sum: fixed::add16(sum, correlation[track + TRACKS * found]),
-        square,
-        energy,
-    }
-}
-
-fn clipped_fourth(
-    correlation: &[i16; 40],
-    table: &[[i16; 40]; 40],
-    first: usize,
-    second: usize,
-    two: Step,
-    track: usize,
-) -> Step
-    requires { (first < 40) × (second < 40) × (two.place < 40) × (track < 5) }
-    ensures { result ≡ best_step (fourth_at correlation.now table.now first second two) track 8 }
-{
-    let mut held = codebook_steps::none_in(track);
-    for n in 0..POSITIONS_PER_TRACK {
-        held = codebook_steps::better(
-            held,
-            fourth_at(correlation, table, first, second, two, track + TRACKS * n),
-        );
-    }
-    held
-}
-
-fn fourth_at(
-    correlation: &[i16; 40],
-    table: &[[i16; 40]; 40],
-    first: usize,
-    second: usize,
-    two: Step,
-    place: usize,
-) -> Step
-    requires { (first < 40) × (second < 40) × (two.place < 40) × (place < 40) }
-    ensures { result ≡ fourth_at correlation.now table.now first second two place }
-{
-    let base = fixed::deposit_high(two.energy);
-    let own = fixed::mac(base, cell(table, place, place), SIXTEENTH_Q15);
-    let third = fixed::mac(own, cell(table, two.place, place), EIGHTH_Q15);
-    let second_too = fixed::mac(third, cell(table, second, place), EIGHTH_Q15);
-    let energy = fixed::mac(second_too, cell(table, first, place), EIGHTH_Q15);
-    codebook_steps::step_to(place, fixed::add16(two.sum, correlation[place]), energy)
-}
-
-fn cell(table: &[[i16; 40]; 40], i: usize, j: usize) -> i16
-    requires { (i < 40) × (j < 40) }
-    ensures { result ≡ cell table.now i j }
-{
-    table[i][j]
 }

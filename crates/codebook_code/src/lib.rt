@@ -10,9 +10,7 @@ ghost use Rattle.codebook_code.specs.Codes.{positions_of, signs_of, full_sign, d
 use codebook_sharpening::SharpeningGain;
 use codebook_steps::Trial;
 
-const SUBFRAME_SAMPLES: usize = 40;
-
-#[derive(Clone, Copy)]
+#[derive(Clone, Copy, Debug, PartialEq, Eq)]
 pub struct PulseWords {
     pub positions: u16,
     pub signs: u16,
@@ -27,6 +25,7 @@ pub struct SearchResult {
 }
 
 // Every lag is taken: the entry checks it.
+#[tactic(auto, unfolding(crate::specs::Codes::chosen, crate::specs::Codes::of_correlation, crate::specs::Codes::of_impulse, crate::specs::Codes::code_4i40_17bits))]
 pub fn searched(
     target: &[i16; 40],
     impulse_q12: &[i16; 40],
@@ -42,105 +41,104 @@ pub fn searched(
     let magnitudes = codebook_target::magnitudes(&correlation);
     let left = codebook_target::starts(&magnitudes);
     let table = codebook_matrix::impulse_correlation(&impulse, &signs);
-    written(
-        codebook_choice::select(&magnitudes, table, &left),
-        &impulse,
-        &signs,
-        lag,
-        sharp,
-    )
+    let pulses = Pulses {
+        chosen: codebook_choice::select(&magnitudes, table, &left),
+        impulse: &impulse,
+        signs: &signs,
+    };
+    pulses.written(lag, sharp)
 }
 
 // ---- TS 26.073 build_code.
 
-fn written(
+// Four pulses, the impulse that filters them and the signs of all places.
+#[derive(Clone, Copy)]
+struct Pulses<'a> {
     chosen: Trial,
-    impulse: &[i16; 40],
-    signs: &[i16; 40],
-    lag: usize,
-    sharp_q15: i16,
-) -> SearchResult
-    requires { (chosen.first < 40) × (chosen.second < 40) × (chosen.third < 40) × (chosen.fourth < 40) }
-    ensures { result ≡ build_code chosen impulse.now signs.now lag sharp_q15 }
-{
-    let positions = positions_of(chosen);
-    let sign_bits = signs_of(chosen, signs);
-    let mut samples = [0i16; 40];
-    codebook::read(positions, sign_bits, &mut samples);
-    SearchResult {
-        words: PulseWords {
-            positions,
-            signs: sign_bits,
-        },
-        innovation_q13: codebook_sharpening::sharpened(&samples, lag, sharp_q15),
-        filtered_q12: filtered(chosen, impulse, signs),
-        sharpened_impulse_q12: *impulse,
+    impulse: &'a [i16; 40],
+    signs: &'a [i16; 40],
+    ghost in_subframe: { (chosen.first < 40) × (chosen.second < 40) × (chosen.third < 40) × (chosen.fourth < 40) },
+}
+
+impl<'a> Pulses<'a> {
+    #[tactic(auto, unfolding(crate::specs::Codes::build_code))]
+    fn written(self, lag: usize, sharp_q15: i16) -> SearchResult
+        ensures { result ≡ build_code self.entry.chosen self.entry.impulse.now self.entry.signs.now lag sharp_q15 }
+    {
+        let positions = self.positions();
+        let signs = self.sign_bits();
+        let mut samples = [0i16; 40];
+        let _ = codebook::read(positions, signs, &mut samples);
+        SearchResult {
+            words: PulseWords { positions, signs },
+            innovation_q13: codebook_sharpening::sharpened(&samples, lag, sharp_q15),
+            filtered_q12: self.filtered(),
+            sharpened_impulse_q12: *self.impulse,
+        }
     }
-}
 
-fn positions_of(chosen: Trial) -> u16
-    ensures { result ≡ positions_of chosen }
-{
-    codebook::position_bits(chosen.first)
-        + codebook::position_bits(chosen.second)
-        + codebook::position_bits(chosen.third)
-        + codebook::position_bits(chosen.fourth)
-}
-
-fn signs_of(chosen: Trial, signs: &[i16; 40]) -> u16
-    requires { (chosen.first < 40) × (chosen.second < 40) × (chosen.third < 40) × (chosen.fourth < 40) }
-    ensures { result ≡ signs_of chosen signs.now }
-{
-    sign_bit(signs, chosen.first)
-        + sign_bit(signs, chosen.second)
-        + sign_bit(signs, chosen.third)
-        + sign_bit(signs, chosen.fourth)
-}
-
-fn sign_bit(signs: &[i16; 40], place: usize) -> u16
-    requires { place < 40 }
-    ensures { result ≡ sign_bit (lt_z (pos 0) (at signs.now place)) place }
-{
-    codebook::sign_bit(0 < signs[place], place)
-}
-
-// In the order of the choice, clipped after every addition.
-fn filtered(chosen: Trial, impulse: &[i16; 40], signs: &[i16; 40]) -> [i16; 40]
-    requires { (chosen.first < 40) × (chosen.second < 40) × (chosen.third < 40) × (chosen.fourth < 40) }
-    ensures { result ≡ filtered chosen impulse.now signs.now }
-{
-    let mut words = [0i16; 40];
-    for i in 0..SUBFRAME_SAMPLES {
-        words[i] = filtered_at(chosen, impulse, signs, i);
+    #[tactic(auto, using(codebook::proofs::ReadBack::position_bits_le), unfolding(crate::specs::Codes::positions_of))]
+    fn positions(self) -> u16
+        ensures { result ≡ positions_of self.entry.chosen }
+    {
+        codebook::position_bits(self.chosen.first)
+            + codebook::position_bits(self.chosen.second)
+            + codebook::position_bits(self.chosen.third)
+            + codebook::position_bits(self.chosen.fourth)
     }
-    words
-}
 
-fn filtered_at(chosen: Trial, impulse: &[i16; 40], signs: &[i16; 40], i: usize) -> i16
-    requires { (chosen.first < 40) × (chosen.second < 40) × (chosen.third < 40) × (chosen.fourth < 40) × (i < 40) }
-    ensures { result ≡ filtered_at chosen impulse.now signs.now i }
-{
-    let one = through(0, impulse, signs, chosen.first, i);
-    let two = through(one, impulse, signs, chosen.second, i);
-    let three = through(two, impulse, signs, chosen.third, i);
-    fixed::rounded(through(three, impulse, signs, chosen.fourth, i))
-}
-
-fn through(sum: i32, impulse: &[i16; 40], signs: &[i16; 40], place: usize, i: usize) -> i32
-    requires { (place < 40) × (i < 40) }
-    ensures { result ≡ through impulse.now signs.now i sum place }
-{
-    fixed::mac(sum, delayed(impulse, place, i), full_sign(signs[place]))
-}
-
-fn delayed(impulse: &[i16; 40], place: usize, i: usize) -> i16
-    requires { i < 40 }
-    ensures { result ≡ delayed impulse.now place i }
-{
-    if i < place {
-        return 0;
+    #[tactic(auto, unfolding(crate::specs::Codes::signs_of))]
+    fn sign_bits(self) -> u16
+        ensures { result ≡ signs_of self.entry.chosen self.entry.signs.now }
+    {
+        self.sign_bit(self.chosen.first)
+            + self.sign_bit(self.chosen.second)
+            + self.sign_bit(self.chosen.third)
+            + self.sign_bit(self.chosen.fourth)
     }
-    impulse[i - place]
+
+    fn sign_bit(self, place: usize) -> u16
+        requires { place < 40 }
+        ensures { result ≡ sign_bit (lt_z (pos 0) (at self.entry.signs.now place)) place }
+    {
+        codebook::sign_bit(0 < self.signs[place], place)
+    }
+
+    fn filtered(self) -> [i16; 40]
+        ensures { result ≡ filtered self.entry.chosen self.entry.impulse.now self.entry.signs.now }
+    {
+        std::array::from_fn(|i| self.filtered_at(i))
+    }
+
+    // In the order of the choice, clipped after every addition.
+    #[tactic(auto, unfolding(crate::specs::Codes::filtered_at, crate::specs::Codes::through_all, crate::specs::Codes::in_order))]
+    fn filtered_at(self, i: usize) -> i16
+        requires { i < 40 }
+        ensures { result ≡ filtered_at self.entry.chosen self.entry.impulse.now self.entry.signs.now i }
+    {
+        let one = self.through(0, self.chosen.first, i);
+        let two = self.through(one, self.chosen.second, i);
+        let three = self.through(two, self.chosen.third, i);
+        fixed::rounded(self.through(three, self.chosen.fourth, i))
+    }
+
+    #[tactic(auto, unfolding(crate::specs::Codes::through))]
+    fn through(self, sum: i32, place: usize, i: usize) -> i32
+        requires { (place < 40) × (i < 40) }
+        ensures { result ≡ through self.entry.impulse.now self.entry.signs.now i sum place }
+    {
+        fixed::mac(sum, self.delayed(place, i), full_sign(self.signs[place]))
+    }
+
+    fn delayed(self, place: usize, i: usize) -> i16
+        requires { i < 40 }
+        ensures { result ≡ delayed self.entry.impulse.now place i }
+    {
+        if i < place {
+            return 0;
+        }
+        self.impulse[i - place]
+    }
 }
 
 fn full_sign(sign: i16) -> i16

@@ -80,12 +80,6 @@ module _ (f : ℕ → ℕ → ℤ) (mirror : (a b : ℕ) → f a b ≡ f b a) wh
         cells = λ a b ha hb w. absurd (omega arith);
       }
 
-  pub row_begins : (m : List (List ℤ)) (k : ℕ) → k < 40 → Rows m k → Filled m (39 - k) 0
-  row_begins m k h r = record { square = r.square; cells = λ a b ha hb w. r.cells a b ha hb (older a b w) }
-    where
-      older : (a b : ℕ) → Before (39 - k) 0 a b → 40 - k ≤ max a b
-      older a b w = ⊎_elim (λ (x : suc (39 - k) ≤ max a b). omega arith) (λ (x : (max a b ≡ 39 - k) × (min a b < 0)). absurd (omega (arith, x.1))) w
-
   pub row_done : (m : List (List ℤ)) (k i : ℕ) → k < 40 → 40 - k ≤ i → Filled m (39 - k) i → Rows m (k + 1)
   row_done m k i h l r = record { square = r.square; cells = λ a b ha hb w. r.cells a b ha hb (go a b w (leb (40 - k) (max a b)) refl) }
     where

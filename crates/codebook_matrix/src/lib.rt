@@ -1,11 +1,13 @@
 // The impulse's correlations with the signs, TS 26.073 cor_h, from codebook/search.rs.
 #![tactic(auto)]
 
-ghost use Rattle.std.specs.Prelude.{◌≡◌, true, ℕ, ◌+◌, ◌-◌, ◌<◌, pos, negsuc, nat_abs, ◌*ℤ◌};
+ghost use Rattle.std.specs.Prelude.{◌≡◌, true, IfSome, ℕ, ◌+◌, ◌-◌, ◌<◌, pos, negsuc, nat_abs, ◌*ℤ◌};
 ghost use Rattle.fixed.specs.Operators.{mult, round, L_mult, L_shl};
 ghost use Rattle.fixed.specs.Lists.{at, tabulate};
 ghost use Rattle.sums.specs.Plain.{squared};
 ghost use Rattle.codebook_matrix.specs.Matrices.{energy, gain_of, scaled_by, normalised, signed, correlations, cor_h};
+
+use fixed::Clipped;
 
 const SUBFRAME_SAMPLES: usize = 40;
 
@@ -18,6 +20,7 @@ const IMPULSE_HEADROOM_Q15: i16 = 32440;
 // Twice 2^30 - 2^14: an energy below it leaves room for the rounding too.
 const ROOM: i32 = 2147450880;
 
+#[tactic(auto, unfolding(crate::specs::Matrices::cor_h))]
 pub fn impulse_correlation(impulse: &[i16; 40], signs: &[i16; 40]) -> [[i16; 40]; 40]
     ensures { result ≡ cor_h impulse.now signs.now }
 {
@@ -25,6 +28,7 @@ pub fn impulse_correlation(impulse: &[i16; 40], signs: &[i16; 40]) -> [[i16; 40]
 }
 
 // Halves where the energy's high word is 32767, else the words by about the inverse of the energy's root.
+#[tactic(auto, unfolding(crate::specs::Matrices::normalised))]
 fn normalized(impulse: &[i16; 40]) -> [i16; 40]
     ensures { result ≡ normalised impulse.now }
 {
@@ -39,9 +43,10 @@ fn normalized(impulse: &[i16; 40]) -> [i16; 40]
 fn energy(impulse: &[i16; 40]) -> i32
     ensures { result ≡ energy impulse.now }
 {
-    fixed::add32(sums::energy40(impulse), INITIAL_ENERGY)
+    fixed::add(sums::energy40(impulse), INITIAL_ENERGY)
 }
 
+#[tactic(auto, unfolding(crate::specs::Matrices::gain_of))]
 fn gain(energy: i32) -> i16
     ensures { result ≡ gain_of energy }
 {
@@ -55,35 +60,59 @@ fn gain(energy: i32) -> i16
 fn scaled(impulse: &[i16; 40], gain: i16) -> [i16; 40]
     ensures { result ≡ scaled_by gain impulse.now }
 {
-    let mut words = [0i16; 40];
-    for i in 0..SUBFRAME_SAMPLES {
-        words[i] = scaled_word(impulse[i], gain);
-    }
-    words
+    std::array::from_fn(|i| scaled_word(impulse[i], gain))
 }
 
 // The doubled product shifted to the left by 9 and rounded, in one shift and one clip.
 fn scaled_word(word: i16, gain: i16) -> i16
     ensures { result ≡ round (L_shl (L_mult word gain) (pos 9)) }
 {
-    fixed::clip16((fixed::exact(word, gain) + 32) >> 6)
+    i16::clip(((fixed::exact(word, gain) + 32) >> 6) as i64)
 }
 
 // Where the energy leaves room for the rounding too, no sum of products is clipped: 2 |a b| is at most a² + b². The signs of a search are all 32767 or -32767.
 fn correlations(normalized: &[i16; 40], signs: &[i16; 40]) -> [[i16; 40]; 40]
     ensures { result ≡ correlations normalized.now signs.now }
 {
-    if all_full(signs) & (sums::energy40(normalized) < ROOM) {
-        return plain_correlations(normalized, signs);
+    match FullSigns::of(signs) {
+        Some(full) if sums::energy40(normalized) < ROOM => plain_correlations(normalized, full),
+        _ => clipped_correlations(normalized, signs),
     }
-    clipped_correlations(normalized, signs)
+}
+
+// Signs that are all 32767 or -32767.
+#[derive(Clone, Copy)]
+struct FullSigns<'a> {
+    words: &'a [i16; 40],
+    ghost full: { (i : ℕ) → i < 40 → nat_abs (at words.now i) ≡ 32767 },
+}
+
+impl<'a> FullSigns<'a> {
+    fn of(words: &'a [i16; 40]) -> Option<Self>
+        ensures { IfSome result (λ signs. signs.words.now ≡ words.now) }
+    {
+        let mut all = true;
+        for word in words {
+            all &= is_full(*word);
+        }
+        if all {
+            return Some(FullSigns { words });
+        }
+        None
+    }
+}
+
+fn is_full(word: i16) -> bool
+    ensures { result ≡ true → nat_abs word ≡ 32767 }
+{
+    word.unsigned_abs() == 32767
 }
 
 // From the last row up. Sum 39 - d is that of distance d, and so those from k on are what row 39 - k has up to its diagonal; each value is stored at both of its places.
 // A row's rest is not stored: a fixed count is quicker than one that shrinks.
-fn plain_correlations(normalized: &[i16; 40], signs: &[i16; 40]) -> [[i16; 40]; 40]
-    requires { (squared (at normalized.now) 40 < 1073725440) × ((i : ℕ) → i < 40 → nat_abs (at signs.now i) ≡ 32767) }
-    ensures { result ≡ correlations normalized.now signs.now }
+fn plain_correlations(normalized: &[i16; 40], signs: FullSigns) -> [[i16; 40]; 40]
+    requires { squared (at normalized.now) 40 < 1073725440 }
+    ensures { result ≡ correlations normalized.now signs.entry.words.now }
 {
     let reversed = sums::reversed40(normalized);
     let row = [0i16; 40];
@@ -92,18 +121,16 @@ fn plain_correlations(normalized: &[i16; 40], signs: &[i16; 40]) -> [[i16; 40]; 
     for k in 0..40 {
         let word = normalized[k];
         for i in 0..40 {
-            sums[k + i] = sums[k + i] + fixed::exact(word, reversed[i]);
+            sums[k + i] += fixed::exact(word, reversed[i]);
         }
         let j = 39 - k;
         let rounded = rounded(&sums, k);
         let mut values = signed_row(&rounded, signs, j);
         values[j] = rounded[j];
-        let mut i = 0;
-        while i <= j {
+        for i in 0..40 - k {
             let cell = values[i];
             table[i][j] = cell;
             table[j][i] = cell;
-            i += 1;
         }
     }
     table
@@ -114,11 +141,7 @@ fn rounded(sums: &[i32; 80], from: usize) -> [i16; 40]
     requires { (from < 40) × ((i : ℕ) → i < 40 → nat_abs (at sums.now (from + i)) < 1073725440) }
     ensures { result ≡ tabulate (λ i. round (pos 2 *ℤ at sums.now (from + i))) 40 }
 {
-    let mut words = [0i16; 40];
-    for i in 0..40 {
-        words[i] = rounded_double(sums[from + i]);
-    }
-    words
+    std::array::from_fn(|i| rounded_double(sums[from + i]))
 }
 
 fn rounded_double(sum: i32) -> i16
@@ -128,33 +151,13 @@ fn rounded_double(sum: i32) -> i16
     ((2 * sum + 32768) >> 16) as i16
 }
 
-fn all_full(signs: &[i16; 40]) -> bool
-    ensures { result ≡ true → (i : ℕ) → i < 40 → nat_abs (at signs.now i) ≡ 32767 }
-{
-    let mut all = true;
-    for i in 0..40 {
-        all = all & is_full(signs[i]);
-    }
-    all
-}
-
-fn is_full(sign: i16) -> bool
-    ensures { result ≡ true → nat_abs sign ≡ 32767 }
-{
-    fixed::unsigned_abs(sign as i32) == 32767
-}
-
 // The values of a row, each by the two signs of its places; also that of a place with itself, which has none.
-fn signed_row(values: &[i16; 40], signs: &[i16; 40], j: usize) -> [i16; 40]
-    requires { (j < 40) × ((i : ℕ) → i < 40 → nat_abs (at signs.now i) ≡ 32767) }
-    ensures { result ≡ tabulate (λ i. mult (at values.now i) (mult (at signs.now i) (at signs.now j))) 40 }
+fn signed_row(values: &[i16; 40], signs: FullSigns, j: usize) -> [i16; 40]
+    requires { j < 40 }
+    ensures { result ≡ tabulate (λ i. mult (at values.now i) (mult (at signs.entry.words.now i) (at signs.entry.words.now j))) 40 }
 {
-    let sign = signs[j];
-    let mut row = [0i16; 40];
-    for i in 0..40 {
-        row[i] = by_signs(values[i], signs[i], sign);
-    }
-    row
+    let sign = signs.words[j];
+    std::array::from_fn(|i| by_signs(values[i], signs.words[i], sign))
 }
 
 // By two signs of 32767, whose Q15 product is 32766 or -32767: words alone, no product.
@@ -187,22 +190,16 @@ fn clipped_correlations(normalized: &[i16; 40], signs: &[i16; 40]) -> [[i16; 40]
     let row = [0i16; 40];
     let mut table = [row; 40];
     let mut sums = [0i32; 40];
-    let mut k = 0;
-    while k < SUBFRAME_SAMPLES {
-        let mut d = 0;
-        while d < SUBFRAME_SAMPLES - k {
+    for k in 0..SUBFRAME_SAMPLES {
+        for d in 0..SUBFRAME_SAMPLES - k {
             sums[d] = fixed::mac(sums[d], normalized[k], normalized[k + d]);
-            d += 1;
         }
         let j = SUBFRAME_SAMPLES - 1 - k;
-        let mut i = 0;
-        while i < SUBFRAME_SAMPLES - k {
+        for i in 0..SUBFRAME_SAMPLES - k {
             let value = signed(fixed::rounded(sums[j - i]), signs, i, j);
             table[i][j] = value;
             table[j][i] = value;
-            i += 1;
         }
-        k += 1;
     }
     table
 }

@@ -1,18 +1,11 @@
 -- The entry of the pulse search behind 01's checks.
 use Rattle.std.specs.Prelude.{List, [], ◌∷◌, ℕ, ℤ}
-use Rattle.refusal.specs.Refused.{Told, values, turned_down}
+use Rattle.refusal.specs.Refused.{values}
 use Rattle.refusal.specs.Checks.{Outcome, unless_refused, length_is, pulse_lag}
 use Rattle.codebook_sharpening.specs.declared.SharpeningGain.{SharpeningGain}
 use Rattle.codebook_code.specs.declared.PulseWords.{PulseWords}
 use Rattle.codebook_code.specs.declared.SearchResult.{SearchResult}
 use Rattle.codebook_code.specs.Codes.{code_4i40_17bits}
-use Rattle.codebook_search.specs.declared.Pulses.{Pulses}
-use Rattle.codebook_search.specs.declared.Pulses.TheVariants.{Words, Refused}
-
--- an answer as 01 gives it: positions and signs
-abbrev pub told_words : Pulses → Told PulseWords
-told_words (Words w) = values w
-told_words (Refused r) = turned_down r
 
 -- the three lists that are lent
 pub record Lists : Type 0 where

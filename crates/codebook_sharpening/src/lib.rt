@@ -8,14 +8,15 @@ const SUBFRAME_SAMPLES: usize = 40;
 
 // The sharpening gain, in Q14. No gain in Q15, and no other gain, is of this kind.
 #[repr(C)]
-#[derive(Clone, Copy)]
+#[derive(Clone, Copy, Debug, PartialEq, Eq)]
 pub struct SharpeningGain(pub i16);
 
 // In Q15, where it clips from 16384 on and below -16384.
+#[tactic(auto, unfolding(crate::specs::Sharpenings::doubled))]
 pub fn doubled(gain: SharpeningGain) -> i16
     ensures { result ≡ doubled gain }
 {
-    fixed::shift_word(gain.0, 1)
+    fixed::shift(gain.0, 1)
 }
 
 // In place: a word that was raised may raise a later one.
@@ -23,10 +24,9 @@ pub fn sharpened(words: &[i16; 40], lag: usize, sharp_q15: i16) -> [i16; 40]
     ensures { result ≡ sharpened words.now lag sharp_q15 }
 {
     let mut samples = *words;
-    let mut n = 0;
-    while lag + n < SUBFRAME_SAMPLES {
-        samples[lag + n] = fixed::add16(samples[lag + n], fixed::fractional(samples[n], sharp_q15));
-        n += 1;
+    for place in lag..SUBFRAME_SAMPLES {
+        let earlier = fixed::fractional(samples[place - lag], sharp_q15);
+        samples[place] = fixed::add(samples[place], earlier);
     }
     samples
 }

@@ -1,5 +1,5 @@
 -- TS 26.073 search_4i40: a pulse more, and what replaces what is held.
-use Rattle.std.specs.Prelude.{Bool, cond, ℕ, ℤ, pos, negsuc}
+use Rattle.std.specs.Prelude.{◌≡◌, refl, Bool, cond, ℕ, ℤ, pos, negsuc}
 use Rattle.std.specs.Int.Signed.{lt_z}
 use Rattle.fixed.specs.Operators.{mult, round, L_mult, L_msu}
 use Rattle.codebook_steps.specs.declared.Step.{Step}
@@ -24,3 +24,12 @@ none_in track = record { place = track; sum = pos 0; square = negsuc 0; energy =
 -- 'psk', 'alpk': the trial held, or the next where it is greater
 unfoldable pub kept : Trial → Trial → Trial
 kept held next = cond (exceeds next.square next.energy held.square held.energy) next held
+
+-- both take what exceeds what is held
+pub better_choice : (held next : Step) → better held next ≡ cond (exceeds next.square next.energy held.square held.energy) next held
+unfolding better
+better_choice held next = refl
+
+pub kept_choice : (held next : Trial) → kept held next ≡ cond (exceeds next.square next.energy held.square held.energy) next held
+unfolding kept
+kept_choice held next = refl

@@ -1,11 +1,11 @@
 // A pulse more in the choice of four, and what replaces what is held, TS 26.073 search_4i40, from codebook/search.rs.
 #![tactic(auto)]
 
-ghost use Rattle.std.specs.Prelude.{◌≡◌};
-ghost use Rattle.codebook_steps.specs.Steps.{step_to, exceeds, better, none_in, kept};
+ghost use Rattle.std.specs.Prelude.{◌≡◌, cond, ℤ};
+ghost use Rattle.codebook_steps.specs.Steps.{step_to, exceeds, better, none_in, kept, better_choice, kept_choice};
 
 // A pulse more: the sum of the correlations so far, its square, the energy so far.
-#[derive(Clone, Copy)]
+#[derive(Clone, Copy, Debug, PartialEq, Eq)]
 pub struct Step {
     pub place: usize,
     pub sum: i16,
@@ -14,7 +14,7 @@ pub struct Step {
 }
 
 // Four pulses in the order in which they were chosen.
-#[derive(Clone, Copy)]
+#[derive(Clone, Copy, Debug, PartialEq, Eq)]
 pub struct Trial {
     pub first: usize,
     pub second: usize,
@@ -24,6 +24,72 @@ pub struct Trial {
     pub energy: i16,
 }
 
+// A square over its energy, by which steps and trials are compared.
+#[derive(Clone, Copy, Debug, PartialEq, Eq)]
+pub struct Ratio {
+    pub square: i16,
+    pub energy: i16,
+}
+
+impl Ratio {
+    // Whether it is greater than the one held: products in place of the quotients.
+    pub fn exceeds(self, held: Ratio) -> bool
+        ensures { result ≡ exceeds self.square self.energy held.square held.energy }
+    {
+        fixed::exact(held.square, self.energy) < fixed::exact(held.energy, self.square)
+    }
+}
+
+// What is chosen by its ratio.
+pub trait Rated: Copy {
+    ghost square: { Self → ℤ };
+
+    ghost energy: { Self → ℤ };
+
+    // The one held, or the next where it is greater.
+    ghost chosen: { Self → Self → Self };
+
+    fn ratio(self) -> Ratio
+        ensures { result ≡ record { square = square self; energy = energy self } };
+
+    ghost choice: { (held next : Self) → chosen held next ≡ cond (exceeds (square next) (energy next) (square held) (energy held)) next held };
+}
+
+impl Rated for Step {
+    ghost square = { λ s. s.square };
+
+    ghost energy = { λ s. s.energy };
+
+    ghost chosen = { better };
+
+    ghost choice = { better_choice };
+
+    fn ratio(self) -> Ratio {
+        Ratio {
+            square: self.square,
+            energy: self.energy,
+        }
+    }
+}
+
+impl Rated for Trial {
+    ghost square = { λ t. t.square };
+
+    ghost energy = { λ t. t.energy };
+
+    ghost chosen = { kept };
+
+    ghost choice = { kept_choice };
+
+    fn ratio(self) -> Ratio {
+        Ratio {
+            square: self.square,
+            energy: self.energy,
+        }
+    }
+}
+
+#[tactic(auto, unfolding(crate::specs::Steps::step_to))]
 pub fn step_to(place: usize, sum: i16, energy: i32) -> Step
     ensures { result ≡ step_to place sum energy }
 {
@@ -35,6 +101,7 @@ pub fn step_to(place: usize, sum: i16, energy: i32) -> Step
     }
 }
 
+#[tactic(auto, unfolding(crate::specs::Steps::none_in))]
 pub fn none_in(track: usize) -> Step
     ensures { result ≡ none_in track }
 {
@@ -46,27 +113,11 @@ pub fn none_in(track: usize) -> Step
     }
 }
 
-pub fn better(held: Step, next: Step) -> Step
-    ensures { result ≡ better held next }
+pub fn better<R: Rated>(held: R, next: R) -> R
+    ensures { result ≡ R.chosen held next }
 {
-    if exceeds(next.square, next.energy, held.square, held.energy) {
+    if next.ratio().exceeds(held.ratio()) {
         return next;
     }
     held
-}
-
-pub fn kept(held: Trial, trial: Trial) -> Trial
-    ensures { result ≡ kept held trial }
-{
-    if exceeds(trial.square, trial.energy, held.square, held.energy) {
-        return trial;
-    }
-    held
-}
-
-// Whether a square over its energy is greater than that held: products in place of the quotients.
-pub fn exceeds(square: i16, energy: i16, held_square: i16, held_energy: i16) -> bool
-    ensures { result ≡ exceeds square energy held_square held_energy }
-{
-    fixed::exact(held_square, energy) < fixed::exact(held_energy, square)
 }

@@ -1,13 +1,11 @@
 // What the pulse search is led by, from codebook/search.rs: the target's correlation with the impulse, the signs and the starts that it gives.
 #![tactic(auto)]
 
-ghost use Rattle.std.specs.Prelude.{◌≡◌, cond, ◌-◌, ◌<◌};
-ghost use Rattle.fixed.specs.Operators.{abs_s};
-ghost use Rattle.fixed.specs.Lists.{at, tabulate};
-ghost use Rattle.codebook_target.specs.Targets.{correlated, greater, greatest, total, cor_h_x};
+ghost use Rattle.std.specs.Prelude.{◌≡◌, ◌<◌};
+ghost use Rattle.fixed.specs.Operators.{L_shl, round};
+ghost use Rattle.fixed.specs.Lists.{tabulate};
+ghost use Rattle.codebook_target.specs.Targets.{correlated, greatest, total, cor_h_x};
 ghost use Rattle.codebook_target.specs.Starts.{sign_of, signs_of, magnitudes_of, lesser, least, set_sign};
-
-const SUBFRAME_SAMPLES: usize = 40;
 
 const TRACKS: usize = 5;
 
@@ -28,12 +26,15 @@ pub fn target_correlation(target: &[i16; 40], impulse: &[i16; 40]) -> [i16; 40]
     ensures { result ≡ cor_h_x target.now impulse.now }
 {
     let raw = raw_correlations(target, impulse);
-    let shift = fixed::sub16(fixed::normalize(total(&raw)), 1);
-    let mut correlation = [0i16; 40];
-    for i in 0..SUBFRAME_SAMPLES {
-        correlation[i] = fixed::rounded(fixed::shift(raw[i], shift));
-    }
-    correlation
+    let shift = fixed::sub(fixed::normalize(total(&raw)), 1);
+    std::array::from_fn(|i| rounded_by(raw[i], shift))
+}
+
+// A sum shifted, and rounded.
+fn rounded_by(sum: i32, shift: i16) -> i16
+    ensures { result ≡ round (L_shl sum shift) }
+{
+    fixed::rounded(fixed::shift(sum, shift))
 }
 
 // The sum at place i is that of a convolution at place 39 - i: of the impulse with the reversed target.
@@ -42,42 +43,31 @@ fn raw_correlations(target: &[i16; 40], impulse: &[i16; 40]) -> [i32; 40]
 {
     let mut sums = [0i32; 40];
     sums::convolution(impulse, &sums::reversed40(target), &mut sums);
-    let mut raw = [0i32; 40];
-    for i in 0..SUBFRAME_SAMPLES {
-        raw[i] = sums[39 - i];
-    }
-    raw
+    std::array::from_fn(|i| sums[39 - i])
 }
 
 // 5, and half of each track's greatest magnitude.
+#[tactic(auto, unfolding(fixed::specs::Lists::L_sum, crate::specs::Targets::total))]
 fn total(raw: &[i32; 40]) -> i32
     ensures { result ≡ total raw.now }
 {
     let mut sum: i32 = INITIAL_MAXIMUM_SUM;
     for track in 0..TRACKS {
-        sum = fixed::add32(sum, fixed::shift(greatest(raw, track), -1));
+        sum = fixed::add(sum, fixed::shift(greatest(raw, track), -1));
     }
     sum
 }
 
+#[tactic(auto, unfolding(crate::specs::Targets::greatest))]
 fn greatest(raw: &[i32; 40], track: usize) -> i32
     requires { track < 5 }
     ensures { result ≡ greatest raw.now track 8 }
 {
     let mut held: i32 = 0;
     for n in 0..POSITIONS_PER_TRACK {
-        held = greater(held, fixed::absolute32(raw[track + TRACKS * n]));
+        held = fixed::absolute(raw[track + TRACKS * n]).max(held);
     }
     held
-}
-
-fn greater(a: i32, b: i32) -> i32
-    ensures { result ≡ greater a b }
-{
-    if a < b {
-        return b;
-    }
-    a
 }
 
 // ---- TS 26.073 set_sign.
@@ -94,36 +84,17 @@ fn sign_of(v: i16) -> i16
 pub fn signs(correlation: &[i16; 40]) -> [i16; 40]
     ensures { result ≡ signs_of correlation.now }
 {
-    parts(correlation, true)
+    std::array::from_fn(|i| sign_of(correlation[i]))
 }
 
 pub fn magnitudes(correlation: &[i16; 40]) -> [i16; 40]
     ensures { result ≡ magnitudes_of correlation.now }
 {
-    parts(correlation, false)
-}
-
-// The sign of each word, or its magnitude.
-fn parts(correlation: &[i16; 40], sign: bool) -> [i16; 40]
-    ensures { result ≡ tabulate (λ i. cond sign (sign_of (at correlation.now i)) (abs_s (at correlation.now i))) 40 }
-{
-    let mut words = [0i16; 40];
-    for i in 0..SUBFRAME_SAMPLES {
-        words[i] = part(correlation[i], sign);
-    }
-    words
-}
-
-fn part(v: i16, sign: bool) -> i16
-    ensures { result ≡ cond sign (sign_of v) (abs_s v) }
-{
-    if sign {
-        return sign_of(v);
-    }
-    fixed::absolute16(v)
+    std::array::from_fn(|i| fixed::absolute(correlation[i]))
 }
 
 // The magnitudes, with -1 at every place that may not start.
+#[tactic(auto, unfolding(crate::specs::Starts::dropped, crate::specs::Starts::set_sign))]
 pub fn starts(magnitudes: &[i16; 40]) -> [i16; 40]
     ensures { result ≡ set_sign magnitudes.now }
 {
@@ -143,6 +114,7 @@ struct Smallest {
 }
 
 // 32767 is never found, and where nothing is, the place dropped last is answered.
+#[tactic(auto, unfolding(crate::specs::Starts::least))]
 fn least(left: &[i16; 40], track: usize, last: usize) -> usize
     requires { track < 5 }
     ensures { result ≡ (least left.now last track 8).place }
@@ -158,6 +130,7 @@ fn least(left: &[i16; 40], track: usize, last: usize) -> usize
 }
 
 // The lower place is kept on a tie.
+#[tactic(auto, unfolding(crate::specs::Starts::lesser))]
 fn lesser(held: Smallest, place: usize, value: i16) -> Smallest
     ensures { result ≡ lesser held place value }
 {

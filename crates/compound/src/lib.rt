@@ -5,7 +5,7 @@ ghost use Rattle.std.specs.Prelude.{◌≡◌, min, pos};
 ghost use Rattle.fixed.specs.Operators.{extract_h, low_half, L_Extract, Mpy_32, Mpy_32_16, L_shl, L_mult, L_mac_flagged, div_s};
 ghost use Rattle.fixed.specs.Line.{line};
 
-use fixed::{Flagged, Halves};
+use fixed::{Clipped, Flagged, Halves};
 
 // ---- A long as two halves, and the products by them.
 
@@ -50,7 +50,7 @@ pub fn multiply_word(a: i32, n: i16) -> i32
 pub fn product_high(a: i16, b: i16, n: u32) -> i16
     ensures { result ≡ extract_h (L_shl (L_mult a b) (pos (min n 15))) }
 {
-    fixed::clip16((a as i32 * b as i32) >> (15 - fixed::at_most(n, 15)))
+    i16::clip((fixed::exact(a, b) >> (15 - n.min(15))) as i64)
 }
 
 // Both without a branch: at which terms a loud walk clips can't be foreseen.
@@ -60,7 +60,7 @@ pub fn mac_flagged(sum: i32, a: i16, b: i16) -> Flagged
     let doubled = fixed::product(a, b);
     let past = sum.overflowing_add(doubled);
     Flagged {
-        value: fixed::add32(sum, doubled),
+        value: fixed::add(sum, doubled),
         overflow: (1073741823 < fixed::exact(a, b)) | past.1,
     }
 }
@@ -77,10 +77,7 @@ pub fn divide(a: i16, b: i16) -> i16
     if b < 1 {
         return 0;
     }
-    fixed::at_most(
-        fixed::unsigned_abs(a as i32) * 32768 / fixed::unsigned_abs(b as i32),
-        32767,
-    ) as i16
+    (a.unsigned_abs() as u32 * 32768 / b.unsigned_abs() as u32).min(32767) as i16
 }
 
 // The point of the straight line from one entry of a table to the next that bits 10 to 24 of `m` tell, times 65536.

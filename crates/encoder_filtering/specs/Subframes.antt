@@ -1,17 +1,10 @@
 -- The two entries of target filtering, behind 01's checks.
 use Rattle.std.specs.Prelude.{List, [], ◌∷◌, ℤ}
-use Rattle.refusal.specs.Refused.{Told, values, turned_down}
+use Rattle.refusal.specs.Refused.{values}
 use Rattle.refusal.specs.Checks.{Check, Outcome, unless_refused, length_is}
-use Rattle.encoder_filtering.specs.declared.Filtering.{Filtering}
-use Rattle.encoder_filtering.specs.declared.Filtering.TheVariants.{Written, Refused}
 use Rattle.filters.specs.Filters.{Residu}
 use Rattle.target_filtering.specs.declared.PreparedSubframe.{PreparedSubframe}
 use Rattle.target_filtering.specs.Subframes.{subframePreProc}
-
--- an answer as 01 gives it: no value, since the lists are lent
-abbrev pub told : Filtering → Told (Unit {0})
-told Written = values tt
-told (Refused r) = turned_down r
 
 -- `residual`: the answer, and the lent list after it
 unfoldable pub residual : List ℤ → List ℤ → List ℤ → Outcome (Unit {0}) (List ℤ)

@@ -31,7 +31,7 @@ pub fn inverse_sqrt_in(value: i32, table: &[u16; 49]) -> i32
     if value < 1 {
         return 0x3fff_ffff;
     }
-    positive_root(fixed::unsigned_abs(value), table)
+    positive_root(value.unsigned_abs(), table)
 }
 
 fn positive_root(u: u32, table: &[u16; 49]) -> i32

@@ -1,13 +1,25 @@
 -- 01, 'Feed and program': 'A record is one byte of kind, then a body whose length the kind fixes'.
-use Rattle.std.specs.Prelude.{Bool, cond, ◌||◌, List, [], ◌∷◌, ℕ, ◌+◌, ◌-◌, ltb, leb, eqb, pos, length, get_or, take, drop}
-use Rattle.refusal.specs.Refused.{Told, values, refused, turned_down}
+use Rattle.std.specs.Prelude.{Option, Some, None, Result, Bool, cond, ◌||◌, List, [], ◌∷◌, ℕ, ◌+◌, ◌-◌, ltb, leb, eqb, pos, length, get_or, take, drop}
+use Rattle.refusal.specs.Refused.{Told, values, refused, told, put}
 use Rattle.refusal.specs.Checks.{Check, checked}
-use Rattle.feed.specs.declared.Header.{Header}
-use Rattle.feed.specs.declared.Header.TheVariants.{End, Record, Refused}
+use Rattle.refusal.specs.declared.Refusal.{Refusal}
+use Rattle.feed.specs.declared.Kind.{Kind}
+use Rattle.feed.specs.declared.Kind.TheVariants.{Reset, HalfFrame, Pitch, Pulses, Gain, Filtering, LagReading}
+use Rattle.feed.specs.declared.Record.{Record}
 
 -- '0 reset of detector, searcher and reader, 0 bytes', 'half frame, 160', 'pitch, 551', 'pulses, 163', 'gain, 245', 'filtering, 184', 'lag reading, 2'
 unfoldable pub lengths : List ℕ
 lengths = 0 ∷ 160 ∷ 551 ∷ 163 ∷ 245 ∷ 184 ∷ 2 ∷ []
+
+-- the number of a kind
+abbrev pub kind_number : Kind → ℕ
+kind_number Reset = 0
+kind_number HalfFrame = 1
+kind_number Pitch = 2
+kind_number Pulses = 3
+kind_number Gain = 4
+kind_number Filtering = 5
+kind_number LagReading = 6
 
 -- the length that a kind fixes
 abbrev pub body_length : ℕ → ℕ
@@ -30,11 +42,13 @@ pub data Standing : Type 0 where
   nothing : Standing
   whole : ℕ → ℕ → Standing
 
--- an answer as 01 gives it
-abbrev pub told_header : Header → Told Standing
-told_header End = values nothing
-told_header (Record kind next) = values (whole kind next)
-told_header (Refused r) = turned_down r
+-- what `header_at` answers, as 01 gives it
+abbrev pub standing : Option Record → Standing
+standing None = nothing
+standing (Some r) = whole (kind_number r.kind) r.next
+
+abbrev pub told_header : Result (Option Record) Refusal → Told Standing
+told_header r = put standing (told r)
 
 -- a record of a kind at a place where the feed has not ended
 abbrev pub record_of : List ℕ → ℕ → ℕ → Told Standing

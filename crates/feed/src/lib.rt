@@ -1,61 +1,105 @@
 // The record reader: what stands at a place of a feed, from 01, 'Feed and program'.
 #![tactic(auto)]
 
-ghost use Rattle.std.specs.Prelude.{◌≡◌, ◌+◌, ◌*◌, ◌≤◌, pos, length};
+ghost use Rattle.std.specs.Prelude.{[], ◌∷◌, ◌≡◌, ◌+◌, ◌*◌, ◌≤◌, pos, length};
+ghost use Rattle.refusal.specs.Refused.{values, refused, told, put};
+ghost use Rattle.refusal.specs.Checks.{checked};
 ghost use Rattle.fixed.specs.Operators.{extract_l, remainder};
 ghost use Rattle.fixed.specs.Lists.{at, tabulate};
-ghost use Rattle.feed.specs.Records.{told_header, body_length, header, body, ends_feed};
+ghost use Rattle.feed.specs.Records.{kind_number, known_kind, told_header, body_length, header, body, ends_feed};
 ghost use Rattle.feed.specs.Words.{words, words_into, swapped};
 
 use refusal::Refusal;
 
-const LAST_KIND: u8 = 6;
-
-#[derive(Clone, Copy)]
-pub enum Header {
-    // The feed ends there.
-    End,
-    // A whole record, and the place of the next one.
-    Record { kind: u8, next: usize },
-    Refused(Refusal),
+#[derive(Clone, Copy, Debug, PartialEq, Eq)]
+pub enum Kind {
+    Reset,
+    HalfFrame,
+    Pitch,
+    Pulses,
+    Gain,
+    Filtering,
+    LagReading,
 }
 
-pub fn header_at(feed: &[u8], at: usize) -> Header
+impl From<Kind> for u8 {
+    ghost from_gives = { λ kind result. result ≡ kind_number kind };
+
+    fn from(kind: Kind) -> u8 {
+        match kind {
+            Kind::Reset => 0,
+            Kind::HalfFrame => 1,
+            Kind::Pitch => 2,
+            Kind::Pulses => 3,
+            Kind::Gain => 4,
+            Kind::Filtering => 5,
+            Kind::LagReading => 6,
+        }
+    }
+}
+
+impl TryFrom<u8> for Kind {
+    type Error = Refusal;
+
+    ghost try_from_gives = { λ number result. put kind_number (told result) ≡ checked (known_kind number ∷ []) refused (values number) };
+
+    fn try_from(number: u8) -> Result<Self, Refusal> {
+        match number {
+            0 => Ok(Kind::Reset),
+            1 => Ok(Kind::HalfFrame),
+            2 => Ok(Kind::Pitch),
+            3 => Ok(Kind::Pulses),
+            4 => Ok(Kind::Gain),
+            5 => Ok(Kind::Filtering),
+            6 => Ok(Kind::LagReading),
+            _ => Err(Refusal::Kind(number)),
+        }
+    }
+}
+
+impl Kind {
+    #[tactic(auto, unfolding(crate::specs::Records::lengths))]
+    pub fn body_length(self) -> usize
+        ensures { result ≡ body_length (kind_number self) }
+    {
+        match self {
+            Kind::Reset => 0,
+            Kind::HalfFrame => 160,
+            Kind::Pitch => 551,
+            Kind::Pulses => 163,
+            Kind::Gain => 245,
+            Kind::Filtering => 184,
+            Kind::LagReading => 2,
+        }
+    }
+}
+
+// A whole record, and the place of the next one.
+#[derive(Clone, Copy, Debug, PartialEq, Eq)]
+pub struct Record {
+    pub kind: Kind,
+    pub next: usize,
+}
+
+// None where the feed ends.
+#[tactic(auto, unfolding(crate::specs::Records::header))]
+pub fn header_at(feed: &[u8], at: usize) -> Result<Option<Record>, Refusal>
     ensures { told_header result ≡ header feed.now at }
 {
     if feed.len() <= at {
-        return Header::End;
+        return Ok(None);
     }
-    let kind = feed[at];
-    if LAST_KIND < kind {
-        return Header::Refused(Refusal::Kind(kind));
-    }
+    let kind = Kind::try_from(feed[at])?;
     let start = at + 1;
-    let needed = body_length(kind);
+    let needed = kind.body_length();
     let present = feed.len() - start;
     if present < needed {
-        return Header::Refused(Refusal::FeedEnd(present));
+        return Err(Refusal::FeedEnd(present));
     }
-    Header::Record {
+    Ok(Some(Record {
         kind,
         next: start + needed,
-    }
-}
-
-// Reset, half frame, pitch, pulses, gain, filtering, lag reading.
-fn body_length(kind: u8) -> usize
-    requires { kind ≤ 6 }
-    ensures { result ≡ body_length kind }
-{
-    match kind {
-        0 => 0,
-        1 => 160,
-        2 => 551,
-        3 => 163,
-        4 => 245,
-        5 => 184,
-        _ => 2,
-    }
+    }))
 }
 
 // The body as that part of the feed, its length found from the kind that stands there; the empty part where no whole record does.
@@ -63,9 +107,9 @@ pub fn body_at(feed: &[u8], at: usize) -> &[u8]
     ensures { result.now ≡ body feed.now at }
 {
     match header_at(feed, at) {
-        Header::End => &feed[..0],
-        Header::Record { kind: _, next } => &feed[at + 1..next],
-        Header::Refused(_) => &feed[..0],
+        Ok(Some(record)) => &feed[at + 1..record.next],
+        Ok(None) => &feed[..0],
+        Err(_) => &feed[..0],
     }
 }
 
@@ -103,7 +147,7 @@ fn copy_low_first(body: &[u8], from: usize, list: &mut [i16])
 fn low_first(first: u8, second: u8) -> i16
     ensures { swapped result ≡ extract_l (pos (first * 256 + second)) }
 {
-    fixed::word(second, first)
+    word(second, first)
 }
 
 fn swap_all(list: &mut [i16])
@@ -119,14 +163,18 @@ fn swap_bytes(v: i16) -> i16
     ensures { result ≡ swapped v }
 {
     let bits = bits_of(v);
-    fixed::word((bits % 256) as u8, (bits / 256) as u8)
+    word((bits % 256) as u8, (bits / 256) as u8)
+}
+
+// As `fixed::word`, by a sum: by `from_be_bytes` the copy is no longer made in one piece.
+fn word(high: u8, low: u8) -> i16
+    ensures { result ≡ extract_l (pos (high * 256 + low)) }
+{
+    fixed::low_word((high as u16 * 256 + low as u16) as i32)
 }
 
 fn bits_of(v: i16) -> u16
     ensures { result ≡ remainder v 65536 }
 {
-    if v < 0 {
-        return (v as i32 + 65536) as u16;
-    }
-    v as u16
+    v.cast_unsigned()
 }

@@ -3,11 +3,11 @@
 use mathlib.Core.Path.{◌≡◌, refl, ◌∙◌}
 use mathlib.Core.Bool.{Bool, true, false, cond}
 use Prim.Native.Nat.{ℕ, zero, suc, ◌+◌, ◌-◌, ◌*◌, ◌/◌, ◌^◌, ◌<◌, ◌≤◌}
-use native.Mathlib.Nat.{le_refl, lt_of_le_of_lt, mul-le-mul, div-le_self}
+use native.Mathlib.Nat.{le_refl, lt_of_le_of_lt, lt_of_lt_of_le, mul-le-mul, div-le_self}
 use native.Mathlib.Omega.{arith}
 use lib.Dec.{T, ltb, ltb→lt, leb→le, lit<}
 use lib.IntN.{ℤ, pos, negsuc, neg_ℤ, nat_abs, sub_ℕ, ◌+ℤ◌, ◌-ℤ◌, ◌*ℤ◌}
-use lib.Pow.{shr_mono}
+use lib.Pow.{shr_mono, pow_mono}
 use lib.Signed.{mag, shr_z, mag_shr, nat_abs-le, ◌≤ℤ◌}
 use mir.Syntax.{Width, w16, w32, w64}
 use mir.Val.{SFits, hbits, to_z, of_z}
@@ -124,6 +124,10 @@ pub ruleset signed = (lit<, to_z-of_z, sfits_of, fits_16_32, fits_32_64, sum_32,
 -- a bound as the record that says so, and what a local reads that holds a result r of which an equation is known
 pub ok : (w : Width) (z : ℤ) → mag z < 2 ^ hbits w → SFits w z
 ok w z h = record { sfits = h }
+
+-- a number of k bits below the sign, at most 31, is a long
+pub of_bits : (k : ℕ) (z : ℤ) → k ≤ 31 → mag z < 2 ^ k → SFits w32 z
+of_bits k z h m = ok w32 z (lt_of_lt_of_le m (pow_mono h))
 
 pub got : (w : Width) {r x : ℤ} → mag r < 2 ^ hbits w → r ≡ x → to_z w (of_z w r) ≡ x
 got w {r} h e = to_z-of_z {z = r} (ok w r h) ∙ e

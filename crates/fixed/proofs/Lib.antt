@@ -7,6 +7,7 @@ pub mod Norms
 pub mod Lines
 pub mod Tables
 pub mod Lists
+pub mod Made
 pub mod Choices
 pub mod Products
 pub mod LowBits

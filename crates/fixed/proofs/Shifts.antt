@@ -66,6 +66,22 @@ unfolding shift_at
 shift_wider j k v (pos n) h l = clip_wider j k (v *ℤ pos (2 ^ n)) h
 shift_wider j k v (negsuc n) h l = clip_id j (shr_z v (2 ^ suc n)) (lt_of_le_of_lt (mag_shr v (2 ^ suc n)) l)
 
+-- a count held at 31, at every width up to it
+module _ (k : ℕ) (v n : ℤ) (h : k ≤ 31) (l : mag v < 2 ^ k) where
+  pub right_at : lt_z n (pos 0) ≡ true → clip k (shr_z v (2 ^ min (nat_abs n) 31)) ≡ shift_at k v n
+  right_at t =
+      ap (clip k) (right_held 31 (nat_abs n) v (lt_of_lt_of_le l (pow_mono h)))
+      ∙ clip_id k (shr_z v (2 ^ nat_abs n)) (lt_of_le_of_lt (mag_shr v (2 ^ nat_abs n)) l)
+      ∙ shift_right_is k v n t
+
+  pub left_at : lt_z n (pos 0) ≡ false → clip k (v *ℤ pos (2 ^ min (nat_abs n) 31)) ≡ shift_at k v n
+  unfolding shift_at
+  left_at t =
+      sym (clip_wider k 31 (v *ℤ pos (2 ^ min (nat_abs n) 31)) h)
+      ∙ ap (clip k) (left_held 31 (nat_abs n) v)
+      ∙ clip_wider k 31 (v *ℤ pos (2 ^ nat_abs n)) h
+      ∙ shift_left_is k v n t
+
 -- a shift of a natural number by one place or more halves it at least
 pub half_le : (v n : ℕ) → v / 2 ^ suc n ≤ v / 2
 half_le v n =

@@ -2,96 +2,142 @@
 // The Rust repeats them in every file; here they have one home. Each is equated with a number of the integers (specs/Operators.antt).
 #![tactic(auto)]
 
-ghost use Rattle.std.specs.Prelude.{◌≡◌, ◌+◌, ◌*◌, ◌^◌, min, pos, nat_abs, ◌*ℤ◌};
+ghost use Rattle.std.specs.Prelude.{◌≡◌, ℕ, ◌*◌, ◌+◌, ◌^◌, ◌<◌, ◌≤◌, ℤ, pos, nat_abs, neg_ℤ, ◌+ℤ◌, ◌-ℤ◌, ◌*ℤ◌};
 ghost use Rattle.std.specs.Int.Signed.{mag, shr_z};
 ghost use Rattle.fixed.specs.Clip.{clip};
-ghost use Rattle.fixed.specs.Operators.{add, sub, negate, abs_s, L_add, L_sub, L_negate, L_abs, L_mult, L_mac, L_msu, mult, extract_h, round, extract_l, L_deposit_h, L_shl, shl, even_bits, norm_l};
+ghost use Rattle.fixed.specs.Operators.{add, sub, negate, abs_s, L_add, L_sub, L_negate, L_abs, shift_at, L_mult, L_mac, L_msu, mult, extract_h, round, extract_l, L_deposit_h, even_bits, norm_l};
+ghost use Rattle.fixed.specs.Widths.{Operators, of_words, of_longs};
 
 // Twice this is a long, and twice the next number is not.
 const MOST_UNDOUBLED: i32 = 1073741823;
 
-// ---- Clipping to the ends of a type.
+// ---- Numbers that are held to the ends of their type: a word, of 16 bits, and a long, of 32.
 
-pub fn clip16(v: i32) -> i16
-    ensures { result ≡ clip 15 v }
-{
-    if 32767 < v {
-        return 32767;
+pub trait Clipped: Copy {
+    // The bits below the sign.
+    ghost bits: { ℕ };
+
+    ghost number: { Self → ℤ };
+
+    // The standard's operators, which have a name for each width.
+    ghost sum: { ℤ → ℤ → ℤ };
+
+    ghost difference: { ℤ → ℤ → ℤ };
+
+    ghost opposite: { ℤ → ℤ };
+
+    ghost magnitude: { ℤ → ℤ };
+
+    fn clip(v: i64) -> Self
+        ensures { number result ≡ clip bits v };
+
+    fn wide(self) -> i64
+        ensures value { result ≡ number self }
+        ensures bound { mag result < 2 ^ bits };
+
+    ghost operators: { Operators bits sum difference opposite magnitude };
+}
+
+impl Clipped for i16 {
+    ghost bits = { 15 };
+
+    ghost number = { λ v. v };
+
+    ghost sum = { add };
+
+    ghost difference = { sub };
+
+    ghost opposite = { negate };
+
+    ghost magnitude = { abs_s };
+
+    ghost operators = { of_words };
+
+    fn clip(v: i64) -> i16 {
+        if 32767 < v {
+            return 32767;
+        }
+        if v < -32768 {
+            return -32768;
+        }
+        v as i16
     }
-    if v < -32768 {
-        return -32768;
+
+    fn wide(self) -> i64 {
+        self as i64
     }
-    v as i16
 }
 
-pub fn clip32(v: i64) -> i32
-    ensures { result ≡ clip 31 v }
-{
-    if 2147483647 < v {
-        return 2147483647;
+impl Clipped for i32 {
+    ghost bits = { 31 };
+
+    ghost number = { λ v. v };
+
+    ghost sum = { L_add };
+
+    ghost difference = { L_sub };
+
+    ghost opposite = { L_negate };
+
+    ghost magnitude = { L_abs };
+
+    ghost operators = { of_longs };
+
+    fn clip(v: i64) -> i32 {
+        if 2147483647 < v {
+            return 2147483647;
+        }
+        if v < -2147483648 {
+            return -2147483648;
+        }
+        v as i32
     }
-    if v < -2147483648 {
-        return -2147483648;
+
+    fn wide(self) -> i64 {
+        self as i64
     }
-    v as i32
 }
 
-// ---- Words.
-
-pub fn add16(a: i16, b: i16) -> i16
-    ensures { result ≡ add a b }
+pub fn add<N: Clipped>(a: N, b: N) -> N
+    ensures { N.number result ≡ N.sum (N.number a) (N.number b) }
 {
-    clip16(a as i32 + b as i32)
+    N::clip(a.wide() + b.wide())
 }
 
-pub fn sub16(a: i16, b: i16) -> i16
-    ensures { result ≡ sub a b }
+pub fn sub<N: Clipped>(a: N, b: N) -> N
+    ensures { N.number result ≡ N.difference (N.number a) (N.number b) }
 {
-    clip16(a as i32 - b as i32)
+    N::clip(a.wide() - b.wide())
 }
 
-pub fn negate16(v: i16) -> i16
-    ensures { result ≡ negate v }
+pub fn negate<N: Clipped>(v: N) -> N
+    ensures { N.number result ≡ N.opposite (N.number v) }
 {
-    sub16(0, v)
+    N::clip(-v.wide())
 }
 
-pub fn absolute16(v: i16) -> i16
-    ensures { result ≡ abs_s v }
+pub fn absolute<N: Clipped>(v: N) -> N
+    ensures { N.number result ≡ N.magnitude (N.number v) }
 {
-    if v < 0 {
-        return negate16(v);
+    N::clip(v.wide().abs())
+}
+
+// A product by a power of two, clipped, to the left; floor to the right. A count past the width is held at it.
+pub fn shift<N: Clipped>(v: N, n: i16) -> N
+    ensures { N.number result ≡ shift_at N.bits (N.number v) n }
+{
+    let places = n.unsigned_abs().min(31) as u32;
+    if n < 0 {
+        return N::clip(v.wide() >> places);
     }
-    v
+    N::clip(v.wide() * power_of_two(places))
 }
 
-// ---- Longs.
-
-pub fn add32(a: i32, b: i32) -> i32
-    ensures { result ≡ L_add a b }
+fn power_of_two(n: u32) -> i64
+    requires { n ≤ 31 }
+    ensures { result ≡ pos (2 ^ n) }
 {
-    clip32(a as i64 + b as i64)
-}
-
-pub fn sub32(a: i32, b: i32) -> i32
-    ensures { result ≡ L_sub a b }
-{
-    clip32(a as i64 - b as i64)
-}
-
-pub fn negate32(v: i32) -> i32
-    ensures { result ≡ L_negate v }
-{
-    sub32(0, v)
-}
-
-pub fn absolute32(v: i32) -> i32
-    ensures { result ≡ L_abs v }
-{
-    if v < 0 {
-        return negate32(v);
-    }
-    v
+    (1u64 << n) as i64
 }
 
 // ---- Products of words.
@@ -117,13 +163,13 @@ pub fn product(a: i16, b: i16) -> i32
 pub fn mac(sum: i32, a: i16, b: i16) -> i32
     ensures { result ≡ L_mac sum a b }
 {
-    add32(sum, product(a, b))
+    add(sum, product(a, b))
 }
 
 pub fn msu(sum: i32, a: i16, b: i16) -> i32
     ensures { result ≡ L_msu sum a b }
 {
-    sub32(sum, product(a, b))
+    sub(sum, product(a, b))
 }
 
 // A sum with the standard's Overflow: whether the product or the sum was clipped.
@@ -137,7 +183,7 @@ pub struct Flagged {
 pub fn fractional(a: i16, b: i16) -> i16
     ensures { result ≡ mult a b }
 {
-    clip16((a as i32 * b as i32) >> 15)
+    i16::clip((exact(a, b) >> 15) as i64)
 }
 
 // ---- The words of a long.
@@ -151,7 +197,7 @@ pub fn high(v: i32) -> i16
 pub fn rounded(v: i32) -> i16
     ensures { result ≡ round v }
 {
-    high(add32(v, 32768))
+    high(add(v, 32768))
 }
 
 // The low 16 bits, read as signed.
@@ -166,8 +212,7 @@ pub fn low_word(v: i32) -> i16
 pub fn word(high: u8, low: u8) -> i16
     ensures { result ≡ extract_l (pos (high * 256 + low)) }
 {
-    let bits = high as u16 * 256 + low as u16;
-    low_word(bits as i32)
+    low_word(u16::from_be_bytes([high, low]) as i32)
 }
 
 pub fn deposit_high(v: i16) -> i32
@@ -185,16 +230,7 @@ pub struct Halves {
     pub low: i16,
 }
 
-// ---- Counts and magnitudes.
-
-pub fn at_most(n: u32, most: u32) -> u32
-    ensures { result ≡ min n most }
-{
-    if n < most {
-        return n;
-    }
-    most
-}
+// ---- Bits.
 
 // n for n and for -(n + 1): the bits of a long below its sign.
 fn magnitude(v: i32) -> u32
@@ -204,52 +240,6 @@ fn magnitude(v: i32) -> u32
         return (-1 - v) as u32;
     }
     v as u32
-}
-
-pub fn unsigned_abs(v: i32) -> u32
-    ensures { result ≡ nat_abs v }
-{
-    if v < 0 {
-        return magnitude(v) + 1;
-    }
-    magnitude(v)
-}
-
-// ---- Shifts: a product by a power of two, clipped, to the left; floor to the right. A count past the width is held at it.
-
-fn power_of_two(n: u32) -> i64
-    ensures { result ≡ pos (2 ^ min n 31) }
-{
-    (1u64 << at_most(n, 31)) as i64
-}
-
-fn shift_left(v: i32, n: u32) -> i32
-    ensures { result ≡ L_shl v (pos n) }
-{
-    clip32(v as i64 * power_of_two(n))
-}
-
-fn shift_right(v: i32, n: u32) -> i32
-    ensures { result ≡ shr_z v (2 ^ n) }
-{
-    v >> at_most(n, 31)
-}
-
-pub fn shift(v: i32, n: i16) -> i32
-    ensures { result ≡ L_shl v n }
-{
-    let count = unsigned_abs(n as i32);
-    if n < 0 {
-        return shift_right(v, count);
-    }
-    shift_left(v, count)
-}
-
-// The same for a word: past 15 places to the left or to the right nothing more changes.
-pub fn shift_word(v: i16, n: i16) -> i16
-    ensures { result ≡ shl v n }
-{
-    clip16(shift(v as i32, n))
 }
 
 // `v & !1`.

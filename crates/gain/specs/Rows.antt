@@ -2,7 +2,7 @@
 use Rattle.std.specs.Prelude.{List, [], ◌∷◌, ℕ, ℤ, pos, negsuc}
 use Rattle.fixed.specs.Operators.{sub, extract_l}
 use Rattle.fixed.specs.Lists.{shifted}
-use Rattle.refusal.specs.Refused.{Told, values, refused, turned_down}
+use Rattle.refusal.specs.Refused.{Told, values, refused}
 use Rattle.refusal.specs.Checks.{Check, checked, length_is, known_limit, predicted_exponent, power_fraction}
 use Rattle.logarithm.specs.Powers.{power}
 use Rattle.gain_table.specs.Rows.{row}
@@ -12,8 +12,6 @@ use Rattle.gain_limit.specs.Limits.{gp_limit}
 use Rattle.gain_coefficients.specs.Energies.{coefficients}
 use Rattle.gain_choice.specs.Rows.{nearest_row}
 use Rattle.gain.specs.declared.QuantizedGain.{QuantizedGain}
-use Rattle.gain.specs.declared.Quantized.{Quantized}
-use Rattle.gain.specs.declared.Quantized.TheVariants.{Row, Refused}
 
 -- ---- the stage
 -- 'gcode0 = extract_l (Pow2 (14, frac_gcode0))'
@@ -45,10 +43,9 @@ unfoldable pub Qua_gain : List ℤ → List ℤ → List ℤ → ℤ → ℕ →
 Qua_gain xs ys zs exponent fraction limit = chosen xs ys zs (nearest_row (weights xs ys zs exponent) (gcode0 fraction) limit)
 
 -- ---- the entry
--- an answer as 01 gives it
-abbrev pub told_row : Quantized → Told QuantizedGain
-told_row (Row q) = values q
-told_row (Refused r) = turned_down r
+-- the innovation's gain that a pair predicts: 01, number 7, then 02, number 14
+abbrev pub predicted : ℤ → ℕ → Told ℤ
+predicted exponent fraction = checked (predicted_exponent exponent ∷ power_fraction fraction ∷ []) refused (values (gcode0 fraction))
 
 -- what is left to check once the limit is known
 abbrev pub limited : List ℤ → List ℤ → List ℤ → ℤ → ℕ → ℕ → Told QuantizedGain

@@ -2,16 +2,13 @@
 #![tactic(auto)]
 
 ghost use Rattle.std.specs.Prelude.{◌≡◌};
-ghost use Rattle.gain_limit.specs.Limits.{limit_number};
+ghost use Rattle.refusal.specs.Refused.{told};
 ghost use Rattle.gain_choice.specs.Rows.{nearest_row};
-ghost use Rattle.gain.specs.Rows.{weights, chosen, told_row, limited, quantize};
+ghost use Rattle.gain.specs.Rows.{weights, chosen, predicted, quantize};
 
-use gain_limit::{GainLimit, LimitChoice};
+use gain_limit::GainLimit;
 use gain_table::GainRow;
-use logarithm::Power;
 use refusal::Refusal;
-
-const SUBFRAME_SAMPLES: usize = 40;
 
 const CODE_EXPONENT_BIAS: i16 = 11;
 
@@ -23,7 +20,7 @@ const GCODE0_EXPONENT: u8 = 14;
 
 // The row, and at how many of its 40 terms each sum was clipped: the adaptive words' energy and their product with the target, before they are made anew with
 // quarters; then the innovation's energy and its products with the target and with the adaptive words.
-#[derive(Clone, Copy)]
+#[derive(Clone, Copy, Debug, PartialEq, Eq)]
 pub struct QuantizedGain {
     pub index: u16,
     pub row: GainRow,
@@ -34,12 +31,7 @@ pub struct QuantizedGain {
     pub adaptive_innovation_clips: u8,
 }
 
-#[derive(Clone, Copy)]
-pub enum Quantized {
-    Row(QuantizedGain),
-    Refused(Refusal),
-}
-
+#[tactic(auto, unfolding(crate::specs::Rows::quantize, crate::specs::Rows::Qua_gain, gain_limit::specs::Limits::limit_choice))]
 pub fn quantize(
     target: &[i16],
     adaptive: &[i16],
@@ -47,59 +39,37 @@ pub fn quantize(
     exponent: i16,
     fraction: u16,
     limit: u8,
-) -> Quantized
-    ensures { told_row result ≡ quantize target.now adaptive.now filtered_innovation_q12.now exponent fraction limit }
+) -> Result<QuantizedGain, Refusal>
+    ensures { told result ≡ quantize target.now adaptive.now filtered_innovation_q12.now exponent fraction limit }
 {
-    if target.len() != SUBFRAME_SAMPLES {
-        return Quantized::Refused(Refusal::Length(target.len()));
-    }
-    if adaptive.len() != SUBFRAME_SAMPLES {
-        return Quantized::Refused(Refusal::Length(adaptive.len()));
-    }
-    if filtered_innovation_q12.len() != SUBFRAME_SAMPLES {
-        return Quantized::Refused(Refusal::Length(filtered_innovation_q12.len()));
-    }
-    match GainLimit::try_new(limit) {
-        LimitChoice::Refused(refusal) => Quantized::Refused(refusal),
-        LimitChoice::Limit(choice) => limited(
-            &sums::forty(target),
-            &sums::forty(adaptive),
-            &sums::forty(filtered_innovation_q12),
-            exponent,
-            fraction,
-            choice,
-        ),
-    }
+    let target = refusal::of_length(target)?;
+    let adaptive = refusal::of_length(adaptive)?;
+    let filtered = refusal::of_length(filtered_innovation_q12)?;
+    let limit = GainLimit::try_new(limit)?;
+    let gcode0 = predicted_gain(exponent, fraction)?;
+    Ok(qua_gain(
+        target,
+        adaptive,
+        filtered,
+        exponent,
+        gcode0,
+        limit.pitch_q14(),
+    ))
 }
 
-// The check of the fraction is that of the power which the stage needs of it.
-fn limited(
-    target: &[i16; 40],
-    adaptive: &[i16; 40],
-    filtered: &[i16; 40],
-    exponent: i16,
-    fraction: u16,
-    limit: GainLimit,
-) -> Quantized
-    ensures { told_row result ≡ limited target.now adaptive.now filtered.now exponent fraction (limit_number limit) }
+// The gain that the pair predicts. The check of the fraction is that of the power which the stage needs of it.
+#[tactic(auto, unfolding(crate::specs::Rows::gcode0, logarithm::specs::Powers::Pow2))]
+fn predicted_gain(exponent: i16, fraction: u16) -> Result<i16, Refusal>
+    ensures { told result ≡ predicted exponent fraction }
 {
-    if exponent < MIN_EXPONENT {
-        return Quantized::Refused(Refusal::Exponent(exponent));
+    if !(MIN_EXPONENT..=MAX_EXPONENT).contains(&exponent) {
+        return Err(Refusal::Exponent(exponent));
     }
-    if MAX_EXPONENT < exponent {
-        return Quantized::Refused(Refusal::Exponent(exponent));
-    }
-    match logarithm::pow2(GCODE0_EXPONENT, fraction) {
-        Power::Value(power) => {
-            let gcode0 = fixed::low_word(power);
-            let limit_q14 = limit.pitch_q14();
-            let chosen = qua_gain(target, adaptive, filtered, exponent, gcode0, limit_q14);
-            Quantized::Row(chosen)
-        }
-        Power::Refused(refusal) => Quantized::Refused(refusal),
-    }
+    let power = logarithm::pow2(GCODE0_EXPONENT, fraction)?;
+    Ok(fixed::low_word(power))
 }
 
+#[tactic(auto, unfolding(crate::specs::Rows::weights, gain_coefficients::specs::Energies::counted_coefficients, gain_pitch::specs::Gains::G_pitch, gain_pitch::specs::Gains::coefficients))]
 fn qua_gain(
     target: &[i16; 40],
     adaptive: &[i16; 40],
@@ -112,7 +82,7 @@ fn qua_gain(
 {
     let gain = gain_pitch::g_pitch(target, adaptive);
     let innovation = sums::shifted40(filtered, -3);
-    let code = fixed::sub16(exponent, CODE_EXPONENT_BIAS);
+    let code = fixed::sub(exponent, CODE_EXPONENT_BIAS);
     let weights = gain_coefficients::counted_coefficients(
         target,
         adaptive,

@@ -1,5 +1,5 @@
 -- The search in three passes: the distances of the rows within the limit, the least of them, and the first place that has it.
-use mathlib.Core.Path.{◌≡◌, refl, sym}
+use mathlib.Core.Path.{◌≡◌, refl, sym, ◌∙◌}
 use mathlib.Core.Bool.{Bool, true, false, cond}
 use Prim.Native.Nat.{ℕ, zero, suc, ◌+◌, ◌-◌, ◌<◌, ◌≤◌}
 use native.Mathlib.Omega.{arith}
@@ -7,6 +7,8 @@ use lib.Dec.{ltb}
 use lib.IntN.{ℤ, pos, negsuc}
 use lib.Signed.{mag, lt_z, ≤ℤ_refl, clash_ℤ}
 use borrow.Author.Tests.{ltb-true, ltb-false, le-ltb}
+use Rattle.std.proofs.Common.{Option, Some, None}
+use Rattle.std.specs.Option.{MatchOption, unwrap_or}
 use Rattle.gain_choice.specs.Rows.{nearer, nearest, LowestOfLeast}
 use Rattle.gain_choice.proofs.Leasts.{nearest_more, lowest_of_least}
 
@@ -77,3 +79,10 @@ module _ (d : ℕ → ℤ) where
   -- one of the rows 0 to n has it
   pub some_place : (n i : ℕ) → n < i → ((k : ℕ) → k < i → d k ≡ d (nearest every d n) → ⊥) → ⊥
   some_place n i h o = let l = (found n).row in o (nearest every d n) (omega arith) refl
+
+  -- so it is what a search for the first such row finds
+  pub found_first : (least : ℤ) (n : ℕ) (o : Option ℕ) → least ≡ d (nearest every d n) →
+      MatchOption o ((k : ℕ) → k < suc n → d k ≡ least → ⊥) (λ i. (i < suc n) × (d i ≡ least) × ((k : ℕ) → k < i → d k ≡ least → ⊥)) →
+      (unwrap_or o 0 ≡ nearest every d n) × (unwrap_or o 0 ≤ n)
+  found_first least n (Some i) q (l, e, other) = (first_place n i (rw q at other) (omega arith) (e ∙ q), omega arith)
+  found_first least n None q none = absurd (some_place n (suc n) (omega arith) (rw q at none))

@@ -29,6 +29,9 @@ module _ (a b : ℤ) (h : nat_abs a * nat_abs b ≤ 32767 * 32768) where
   unfolding mult
   q15_is = sym (clip_id 15 (shr_z (a *ℤ b) 32768) q15_fits.sfits)
 
+  pub mult_small : nat_abs (mult a b) ≤ 32767
+  mult_small = rw (← q15_is) q15_small
+
 -- of a word and one that is not -32768, in either order
 pub below_left : (a b : ℤ) → nat_abs a ≤ 32767 → SFits w16 b → nat_abs a * nat_abs b ≤ 32767 * 32768
 below_left a b h f = mul-le-mul h (abs_fits f)

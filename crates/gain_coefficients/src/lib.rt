@@ -1,14 +1,13 @@
 // The coefficients of a row's distance, TS 26.073 calc_filt_energies and the scaling of Qua_gain at 7.4 kbit/s, from gain/quantization.rs.
 #![tactic(auto)]
 
-ghost use Rattle.std.specs.Prelude.{◌≡◌, cond, [], ◌∷◌};
-ghost use Rattle.std.specs.Int.Signed.{lt_z};
+ghost use Rattle.std.specs.Prelude.{◌≡◌};
 ghost use Rattle.gain_coefficients.specs.Energies.{cut, negated, raised, yy_coefficient, xy_coefficient, levelled, on_one_scale, coefficients, counted_coefficients};
 
 use gain_pitch::PitchGain;
 
 // The five coefficients, and how often the three sums of the innovation were clipped: its energy, and those with the target and with the adaptive words.
-#[derive(Clone, Copy)]
+#[derive(Clone, Copy, Debug, PartialEq, Eq)]
 pub struct CountedCoefficients {
     pub list: [i32; 5],
     pub innovation_clips: u8,
@@ -29,16 +28,13 @@ pub fn counted_coefficients(
     let zz = gain_sums::dot(innovation, innovation);
     let xz = gain_sums::dot(target, innovation);
     let yz = gain_sums::dot(adaptive, innovation);
-    let list = on_one_scale(
-        raised(adaptive_energy(gain), -13),
-        raised(adaptive_correlation(gain), -14),
-        raised(
-            cut(zz.value, -3),
-            fixed::add16(15, fixed::shift_word(code, 1)),
-        ),
-        raised(negated(cut(xz.value, 7)), code),
-        raised(cut(yz.value, 7), fixed::add16(1, code)),
-    );
+    let list = on_one_scale(&[
+        adaptive_energy(gain).raised(-13),
+        adaptive_correlation(gain).raised(-14),
+        Coefficient::cut(zz.value, -3).raised(fixed::add(15, fixed::shift(code, 1))),
+        Coefficient::cut(xz.value, 7).negated().raised(code),
+        Coefficient::cut(yz.value, 7).raised(fixed::add(1, code)),
+    ]);
     CountedCoefficients {
         list,
         innovation_clips: zz.clips,
@@ -48,6 +44,7 @@ pub fn counted_coefficients(
 }
 
 // The coefficients alone.
+#[tactic(auto, unfolding(crate::specs::Energies::counted_coefficients))]
 pub fn coefficients(
     target: &[i16; 40],
     adaptive: &[i16; 40],
@@ -66,32 +63,45 @@ struct Coefficient {
     exponent: i16,
 }
 
-// Only shifted: no rounding.
-fn cut(sum: i32, bias: i16) -> Coefficient
-    ensures { result ≡ cut sum bias }
-{
-    let places = fixed::normalize(sum);
-    Coefficient {
-        fraction: fixed::high(fixed::shift(sum, places)),
-        exponent: fixed::sub16(bias, places),
+impl Coefficient {
+    // Only shifted: no rounding.
+    #[tactic(auto, unfolding(crate::specs::Energies::cut))]
+    fn cut(sum: i32, bias: i16) -> Coefficient
+        ensures { result ≡ cut sum bias }
+    {
+        let places = fixed::normalize(sum);
+        Coefficient {
+            fraction: fixed::high(fixed::shift(sum, places)),
+            exponent: fixed::sub(bias, places),
+        }
     }
-}
 
-fn negated(c: Coefficient) -> Coefficient
-    ensures { result ≡ negated c }
-{
-    Coefficient {
-        fraction: fixed::negate16(c.fraction),
-        exponent: c.exponent,
+    fn negated(self) -> Coefficient
+        ensures { result ≡ negated self }
+    {
+        Coefficient {
+            fraction: fixed::negate(self.fraction),
+            exponent: self.exponent,
+        }
     }
-}
 
-fn raised(c: Coefficient, scale: i16) -> Coefficient
-    ensures { result ≡ raised c scale }
-{
-    Coefficient {
-        fraction: c.fraction,
-        exponent: fixed::add16(c.exponent, scale),
+    fn raised(self, scale: i16) -> Coefficient
+        ensures { result ≡ raised self scale }
+    {
+        Coefficient {
+            fraction: self.fraction,
+            exponent: fixed::add(self.exponent, scale),
+        }
+    }
+
+    #[tactic(auto, unfolding(crate::specs::Energies::levelled))]
+    fn levelled(self, top: i16) -> i32
+        ensures { result ≡ levelled top self }
+    {
+        fixed::shift(
+            fixed::deposit_high(self.fraction),
+            fixed::sub(self.exponent, top),
+        )
     }
 }
 
@@ -108,47 +118,18 @@ fn adaptive_correlation(gain: PitchGain) -> Coefficient
     ensures { result ≡ xy_coefficient gain }
 {
     Coefficient {
-        fraction: fixed::negate16(gain.xy),
-        exponent: fixed::add16(gain.xy_exponent, 1),
+        fraction: fixed::negate(gain.xy),
+        exponent: fixed::add(gain.xy_exponent, 1),
     }
 }
 
-fn on_one_scale(
-    yy: Coefficient,
-    xy: Coefficient,
-    zz: Coefficient,
-    xz: Coefficient,
-    yz: Coefficient,
-) -> [i32; 5]
-    ensures { result ≡ on_one_scale (yy ∷ xy ∷ zz ∷ xz ∷ yz ∷ []) }
+fn on_one_scale(list: &[Coefficient; 5]) -> [i32; 5]
+    ensures { result ≡ on_one_scale list.now }
 {
-    let two = greater(yy.exponent, xy.exponent);
-    let three = greater(two, zz.exponent);
-    let four = greater(three, xz.exponent);
-    let top = fixed::add16(greater(four, yz.exponent), 1);
-    [
-        levelled(yy, top),
-        levelled(xy, top),
-        levelled(zz, top),
-        levelled(xz, top),
-        levelled(yz, top),
-    ]
-}
-
-fn greater(a: i16, b: i16) -> i16
-    ensures { result ≡ cond (lt_z a b) b a }
-{
-    if a < b {
-        return b;
+    let mut greatest = list[0].exponent;
+    for coefficient in list {
+        greatest = coefficient.exponent.max(greatest);
     }
-    a
-}
-
-fn levelled(c: Coefficient, top: i16) -> i32
-    ensures { result ≡ levelled top c }
-{
-    fixed::shift(
-        fixed::deposit_high(c.fraction),
-        fixed::sub16(c.exponent, top),
-    )
+    let top = fixed::add(greatest, 1);
+    std::array::from_fn(|i| list[i].levelled(top))
 }

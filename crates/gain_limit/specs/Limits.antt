@@ -1,11 +1,9 @@
 -- The limit of the pitch gain. 01, number 2, refuses where 'a limit choice is not 0 (unrestricted) or 1 (resonance)'.
 use Rattle.std.specs.Prelude.{[], ◌∷◌, ℕ, zero, suc, ℤ, pos}
-use Rattle.refusal.specs.Refused.{Told, values, refused, turned_down}
+use Rattle.refusal.specs.Refused.{Told, values, refused}
 use Rattle.refusal.specs.Checks.{checked, known_limit}
 use Rattle.gain_limit.specs.declared.GainLimit.{GainLimit}
 use Rattle.gain_limit.specs.declared.GainLimit.TheVariants.{Unrestricted, Resonance}
-use Rattle.gain_limit.specs.declared.LimitChoice.{LimitChoice}
-use Rattle.gain_limit.specs.declared.LimitChoice.TheVariants.{Limit, Refused}
 
 -- the number of each choice
 abbrev pub limit_number : GainLimit → ℕ
@@ -16,11 +14,6 @@ limit_number Resonance = 1
 abbrev pub gp_limit : ℕ → ℤ
 gp_limit zero = pos 32767
 gp_limit (suc n) = pos 15565
-
--- an answer as 01 gives it
-abbrev pub told_limit : LimitChoice → Told ℕ
-told_limit (Limit l) = values (limit_number l)
-told_limit (Refused r) = turned_down r
 
 -- 01, number 2
 unfoldable pub limit_choice : ℕ → Told ℕ

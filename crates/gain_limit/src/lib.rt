@@ -2,32 +2,28 @@
 #![tactic(auto)]
 
 ghost use Rattle.std.specs.Prelude.{◌≡◌};
-ghost use Rattle.gain_limit.specs.Limits.{limit_number, gp_limit, told_limit, limit_choice};
+ghost use Rattle.gain_limit.specs.Limits.{limit_number, gp_limit, limit_choice};
+ghost use Rattle.refusal.specs.Refused.{told, put};
 
 use refusal::Refusal;
 
-#[derive(Clone, Copy)]
+#[derive(Clone, Copy, Debug, PartialEq, Eq)]
 pub enum GainLimit {
     Unrestricted,
     Resonance,
 }
 
-#[derive(Clone, Copy)]
-pub enum LimitChoice {
-    Limit(GainLimit),
-    Refused(Refusal),
-}
-
 impl GainLimit {
     pub const RESONANCE_Q14: i16 = 15565;
 
-    pub fn try_new(choice: u8) -> LimitChoice
-        ensures { told_limit result ≡ limit_choice choice }
+    #[tactic(auto, unfolding(crate::specs::Limits::limit_choice))]
+    pub fn try_new(choice: u8) -> Result<GainLimit, Refusal>
+        ensures { put limit_number (told result) ≡ limit_choice choice }
     {
         match choice {
-            0 => LimitChoice::Limit(GainLimit::Unrestricted),
-            1 => LimitChoice::Limit(GainLimit::Resonance),
-            _ => LimitChoice::Refused(Refusal::LimitChoice(choice)),
+            0 => Ok(GainLimit::Unrestricted),
+            1 => Ok(GainLimit::Resonance),
+            _ => Err(Refusal::LimitChoice(choice)),
         }
     }
 

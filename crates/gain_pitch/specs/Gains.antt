@@ -4,13 +4,11 @@ use Rattle.std.specs.Int.Signed.{lt_z}
 use Rattle.fixed.specs.declared.Flagged.{Flagged}
 use Rattle.fixed.specs.Operators.{sub, round, L_shl, shl, norm_l, div_s}
 use Rattle.fixed.specs.Lists.{shifted}
-use Rattle.refusal.specs.Refused.{Told, values, refused, turned_down}
+use Rattle.refusal.specs.Refused.{Told, values, refused}
 use Rattle.refusal.specs.Checks.{checked, length_is}
 use Rattle.gain_sums.specs.Sums.{flagged_sum, clips}
 use Rattle.gain_pitch.specs.declared.ScaledWord.{ScaledWord}
 use Rattle.gain_pitch.specs.declared.PitchGain.{PitchGain}
-use Rattle.gain_pitch.specs.declared.FoundGain.{FoundGain}
-use Rattle.gain_pitch.specs.declared.FoundGain.TheVariants.{Gain, Refused}
 
 -- ---- a long with its highest bit brought up
 -- 'exp_yy = norm_l (s); yy = round (L_shl (s, exp_yy)); exp_yy = sub (exp_yy, 4)'; nothing is subtracted where the sum did not overflow
@@ -59,11 +57,6 @@ unfoldable pub G_pitch : List ℤ → List ℤ → PitchGain
 G_pitch xs ys = coefficients (correlation xs ys) (energy ys) (clips ys ys 40) (clips xs ys 40)
 
 -- ---- the entry
--- an answer as 01 gives it
-abbrev pub told_gain : FoundGain → Told PitchGain
-told_gain (Gain g) = values g
-told_gain (Refused r) = turned_down r
-
 -- `pitch_gain`: 01, number 1
 unfoldable pub pitch_gain : List ℤ → List ℤ → Told PitchGain
 pitch_gain xs ys = checked (length_is 40 xs ∷ length_is 40 ys ∷ []) refused (values (G_pitch xs ys))

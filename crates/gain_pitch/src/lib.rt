@@ -3,12 +3,11 @@
 
 ghost use Rattle.std.specs.Prelude.{◌≡◌};
 ghost use Rattle.gain_sums.specs.Sums.{counted_sum};
-ghost use Rattle.gain_pitch.specs.Gains.{normalized, energy, correlation, gain, G_pitch, told_gain, pitch_gain};
+ghost use Rattle.gain_pitch.specs.Gains.{normalized, energy, correlation, gain, G_pitch, pitch_gain};
+ghost use Rattle.refusal.specs.Refused.{told};
 
 use gain_sums::Counted;
 use refusal::Refusal;
-
-const SUBFRAME_SAMPLES: usize = 40;
 
 const MAX_PITCH_GAIN_Q14: i16 = 19661;
 
@@ -17,7 +16,7 @@ const MIN_POSITIVE_CORRELATION: i16 = 4;
 const CORRELATION_EXPONENT: i16 = 15;
 
 // The standard's g_coeff beside the gain: each number is a word by two to its exponent. The counts are those of the first energy sum and the first target sum.
-#[derive(Clone, Copy)]
+#[derive(Clone, Copy, Debug, PartialEq, Eq)]
 pub struct PitchGain {
     pub gain_q14: i16,
     pub yy: i16,
@@ -28,25 +27,16 @@ pub struct PitchGain {
     pub target_clips: u8,
 }
 
-// What `pitch_gain` answers.
-#[derive(Clone, Copy)]
-pub enum FoundGain {
-    Gain(PitchGain),
-    Refused(Refusal),
-}
-
-pub fn pitch_gain(target: &[i16], adaptive: &[i16]) -> FoundGain
-    ensures { told_gain result ≡ pitch_gain target.now adaptive.now }
+#[tactic(auto, unfolding(crate::specs::Gains::pitch_gain))]
+pub fn pitch_gain(target: &[i16], adaptive: &[i16]) -> Result<PitchGain, Refusal>
+    ensures { told result ≡ pitch_gain target.now adaptive.now }
 {
-    if target.len() != SUBFRAME_SAMPLES {
-        return FoundGain::Refused(Refusal::Length(target.len()));
-    }
-    if adaptive.len() != SUBFRAME_SAMPLES {
-        return FoundGain::Refused(Refusal::Length(adaptive.len()));
-    }
-    FoundGain::Gain(g_pitch(&sums::forty(target), &sums::forty(adaptive)))
+    let target = refusal::of_length(target)?;
+    let adaptive = refusal::of_length(adaptive)?;
+    Ok(g_pitch(target, adaptive))
 }
 
+#[tactic(auto, unfolding(crate::specs::Gains::G_pitch, crate::specs::Gains::coefficients, gain_sums::specs::Sums::counted_sum))]
 pub fn g_pitch(target: &[i16; 40], adaptive: &[i16; 40]) -> PitchGain
     ensures { result ≡ G_pitch target.now adaptive.now }
 {
@@ -57,9 +47,9 @@ pub fn g_pitch(target: &[i16; 40], adaptive: &[i16; 40]) -> PitchGain
     PitchGain {
         gain_q14: gain(xy, yy),
         yy: yy.word,
-        yy_exponent: fixed::sub16(CORRELATION_EXPONENT, yy.exponent),
+        yy_exponent: fixed::sub(CORRELATION_EXPONENT, yy.exponent),
         xy: xy.word,
-        xy_exponent: fixed::sub16(CORRELATION_EXPONENT, xy.exponent),
+        xy_exponent: fixed::sub(CORRELATION_EXPONENT, xy.exponent),
         energy_clips: first_energy.clips,
         target_clips: first_product.clips,
     }
@@ -72,22 +62,21 @@ struct ScaledWord {
     exponent: i16,
 }
 
+#[tactic(auto, unfolding(crate::specs::Gains::gain, crate::specs::Gains::quotient))]
 fn gain(xy: ScaledWord, yy: ScaledWord) -> i16
     ensures { result ≡ gain xy yy }
 {
     if xy.word < MIN_POSITIVE_CORRELATION {
         return 0;
     }
-    let ratio = compound::divide(fixed::shift_word(xy.word, -1), yy.word);
-    let gain = fixed::shift_word(ratio, fixed::sub16(yy.exponent, xy.exponent));
-    if MAX_PITCH_GAIN_Q14 < gain {
-        return MAX_PITCH_GAIN_Q14;
-    }
-    gain
+    let ratio = compound::divide(fixed::shift(xy.word, -1), yy.word);
+    let gain = fixed::shift(ratio, fixed::sub(yy.exponent, xy.exponent));
+    gain.min(MAX_PITCH_GAIN_Q14)
 }
 
 // ---- A sum that overflowed is made anew with a quarter of the adaptive words, and its exponent lowered.
 
+#[tactic(auto, using(crate::proofs::Overflowed::counted_anew, crate::proofs::Overflowed::counted_kept), unfolding(gain_sums::specs::Sums::flagged_sum, gain_sums::specs::Sums::counted_sum))]
 fn energy(adaptive: &[i16; 40], first: Counted) -> ScaledWord
     requires { first ≡ counted_sum adaptive.now adaptive.now 40 }
     ensures { result ≡ energy adaptive.now }
@@ -98,6 +87,7 @@ fn energy(adaptive: &[i16; 40], first: Counted) -> ScaledWord
     normalized(first.value, 0)
 }
 
+#[tactic(auto, using(crate::proofs::Overflowed::counted_anew, crate::proofs::Overflowed::counted_kept), unfolding(gain_sums::specs::Sums::flagged_sum, gain_sums::specs::Sums::counted_sum))]
 fn correlation(target: &[i16; 40], adaptive: &[i16; 40], first: Counted) -> ScaledWord
     requires { first ≡ counted_sum target.now adaptive.now 40 }
     ensures { result ≡ correlation target.now adaptive.now }
@@ -111,12 +101,13 @@ fn correlation(target: &[i16; 40], adaptive: &[i16; 40], first: Counted) -> Scal
     normalized(first.value, 0)
 }
 
+#[tactic(auto, unfolding(crate::specs::Gains::normalized))]
 fn normalized(sum: i32, lowered: i16) -> ScaledWord
     ensures { result ≡ normalized sum lowered }
 {
     let places = fixed::normalize(sum);
     ScaledWord {
         word: fixed::rounded(fixed::shift(sum, places)),
-        exponent: fixed::sub16(places, lowered),
+        exponent: fixed::sub(places, lowered),
     }
 }

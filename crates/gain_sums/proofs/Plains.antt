@@ -14,13 +14,9 @@ use Rattle.fixed.proofs.Clips.{clip_id}
 use Rattle.compound.proofs.Overflows.{past_end}
 use Rattle.sums.proofs.Plain.{double_add, plain_mult}
 use Rattle.sums.specs.Plain.{plain}
-use Rattle.gain_sums.specs.Sums.{sum, overflow}
+use Rattle.gain_sums.specs.Sums.{sum, overflow, Quiet}
 
 module _ (xs ys : List ℤ) where
-  -- quiet beside each other: no product is so great that a step could be clipped
-  abbrev pub Quiet : Type 0
-  Quiet = (k : ℕ) → k < 40 → nat_abs (at xs k) * nat_abs (at ys k) ≤ 26843545
-
   -- half the sum of i products
   abbrev pub half : ℕ → ℤ
   half i = plain (at xs) (at ys) i
@@ -29,7 +25,7 @@ module _ (xs ys : List ℤ) where
   abbrev pub whole : ℕ → ℤ
   whole i = pos 2 *ℤ half i +ℤ pos 1
 
-  module _ (q : Quiet) where
+  module _ (q : Quiet xs ys) where
     half_below : (i : ℕ) → i ≤ 40 → nat_abs (half i) ≤ i * 26843545
     unfolding plain
     half_below zero h = omega arith

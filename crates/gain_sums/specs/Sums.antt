@@ -1,5 +1,5 @@
 -- TS 26.073 G_pitch and calc_filt_energies: a scalar product of two lists, its 'Overflow', and how often it was clipped.
-use Rattle.std.specs.Prelude.{Bool, false, cond, ◌||◌, List, ℕ, zero, suc, ◌+◌, ℤ, pos}
+use Rattle.std.specs.Prelude.{Bool, false, cond, ◌||◌, List, ℕ, zero, suc, ◌+◌, ◌*◌, ◌<◌, ◌≤◌, ℤ, pos, nat_abs}
 use Rattle.fixed.specs.declared.Flagged.{Flagged}
 use Rattle.fixed.specs.Operators.{L_mult, L_mac_overflow}
 use Rattle.fixed.specs.Lists.{at, L_sum}
@@ -26,3 +26,7 @@ clips xs ys (suc n) = clips xs ys n + cond (L_mac_overflow (sum xs ys n) (at xs 
 -- the sum with it
 unfoldable pub counted_sum : List ℤ → List ℤ → ℕ → Counted
 counted_sum xs ys n = record { value = sum xs ys n; clips = clips xs ys n }
+
+-- 40 words each that are quiet beside each other: no product of two is above a fortieth of 2 ^ 30, so that no step can be clipped
+abbrev pub Quiet : List ℤ → List ℤ → Type 0
+Quiet xs ys = (k : ℕ) → k < 40 → nat_abs (at xs k) * nat_abs (at ys k) ≤ 26843545

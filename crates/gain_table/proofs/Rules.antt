@@ -1,11 +1,11 @@
 -- The table's rule, by one test over the whole of it, carried to each row.
 use mathlib.Core.Path.{◌≡◌, refl}
 use mathlib.Core.Bool.{Bool, true, false, cond}
-use mathlib.Core.List.{List, []}
-use Prim.Native.Nat.{ℕ, ◌<◌, ◌≤◌}
+use mathlib.Core.List.{List, [], ◌∷◌}
+use Prim.Native.Nat.{ℕ, zero, suc, ◌<◌, ◌≤◌}
 use lib.Dec.{T, leb, ltb, leb→le}
 use lib.IntN.{ℤ, pos, nat_abs}
-use lib.ListN.{get_or, get_or-eq_default}
+use lib.ListN.{get_or}
 use lib.Signed.{le_z}
 use Rattle.fixed.specs.Lists.{at}
 use Rattle.fixed.proofs.Tables.{both, both_left, both_right, at as tested_at}
@@ -61,7 +61,14 @@ pub correction_small : (i : ℕ) → i < 128 → nat_abs (correction i) ≤ 3276
 unfolding small
 correction_small i h = leb→le (nat_abs (correction i)) 32767 (both_right (leb (nat_abs (pitch i)) 32767) _ (all_small i h))
 
--- past the last row there is none
-pub past_end : (i : ℕ) → 128 ≤ i → get_or table i [] ≡ []
-unfolding table
-past_end i h = get_or-eq_default table [] h
+-- past the last row a row of three zeros reads as none does
+zeros : (k : ℕ) → at (pos 0 ∷ pos 0 ∷ pos 0 ∷ []) k ≡ pos 0
+zeros zero = refl
+zeros (suc zero) = refl
+zeros (suc (suc zero)) = refl
+zeros (suc (suc (suc k))) = refl
+
+pub or_zeros : (rows : List (List ℤ)) (i k : ℕ) → at (get_or rows i (pos 0 ∷ pos 0 ∷ pos 0 ∷ [])) k ≡ at (get_or rows i []) k
+or_zeros [] i k = zeros k
+or_zeros (row ∷ rows) zero k = refl
+or_zeros (row ∷ rows) (suc i) k = or_zeros rows i k

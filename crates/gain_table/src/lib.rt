@@ -140,7 +140,7 @@ const TABLE: [[i16; 3]; 128] = [
     [18842, 32764, 18494],
 ];
 
-#[derive(Clone, Copy)]
+#[derive(Clone, Copy, Debug, PartialEq, Eq)]
 pub struct GainRow {
     pub pitch_q14: i16,
     pub correction_q12: i16,
@@ -148,6 +148,7 @@ pub struct GainRow {
 }
 
 // Only here does the code name the constant: each place that does pays for its 128 rows.
+#[tactic(auto, unfolding(crate::specs::Rows::table))]
 fn table() -> [[i16; 3]; 128]
     ensures { result ≡ table }
 {
@@ -158,19 +159,14 @@ fn table() -> [[i16; 3]; 128]
 pub fn row(index: u16) -> GainRow
     ensures { result ≡ row index }
 {
-    let i = index as usize;
-    if ROWS <= i {
-        return GainRow {
-            pitch_q14: 0,
-            correction_q12: 0,
-            energy_q10: 0,
-        };
-    }
-    let rows = table();
+    let [pitch_q14, correction_q12, energy_q10] = table()
+        .get(index as usize)
+        .copied()
+        .unwrap_or([0; 3]);
     GainRow {
-        pitch_q14: rows[i][0],
-        correction_q12: rows[i][1],
-        energy_q10: rows[i][2],
+        pitch_q14,
+        correction_q12,
+        energy_q10,
     }
 }
 
@@ -188,7 +184,8 @@ pub fn corrections() -> [i16; 128]
     column(&table(), 1)
 }
 
-// In two halves, each short enough that the compiler unrolls it: a column is then a constant, and costs its stores alone.
+// In two halves, each short enough that the compiler unrolls it: a column is then a constant, and costs its stores alone. With `array::from_fn` it is not,
+// and the whole search takes half as long again.
 fn column(rows: &[[i16; 3]; 128], c: usize) -> [i16; 128]
     requires { (rows.now ≡ table) × (c < 3) }
     ensures { result ≡ column c }

@@ -2,44 +2,32 @@
 #![tactic(auto)]
 
 ghost use Rattle.std.specs.Prelude.{◌≡◌};
-ghost use Rattle.refusal.specs.Refused.{values, turned_down};
+ghost use Rattle.refusal.specs.Refused.{values, refused, told};
+ghost use Rattle.refusal.specs.Checks.{checked, told_step};
 ghost use Rattle.pitch.specs.Kinds.{following};
 ghost use Rattle.pitch.specs.Windows.{handset};
-ghost use Rattle.lag_reader.specs.Readers.{fresh_reader, told_reading, start_used, read};
+ghost use Rattle.pitch.specs.Indexes.{lag_of};
+ghost use Rattle.lag_reader.specs.Readers.{fresh_reader, start_used, reading_checks, read};
 
 use pitch::{PitchLag, Subframe};
-use refusal::Refusal;
+use refusal::{Refusal, Step};
 
 const MAX_DELTA_INDEX: u8 = 31;
 
 // The lag reader: the lag that it read last, the subframe that it expects, and the start of the window that it read in, 0 when fresh and after subframes one and three.
-#[derive(Clone, Copy)]
+#[derive(Clone, Copy, Debug, PartialEq, Eq)]
 pub struct Reader {
     pub previous: PitchLag,
     pub next: Subframe,
     pub start: u16,
 }
 
-// What `read` answers.
-#[derive(Clone, Copy)]
-pub enum Reading {
-    Lag(PitchLag),
-    Refused(Refusal),
-}
-
-#[derive(Clone, Copy)]
-pub struct ReaderStep {
-    pub reading: Reading,
-    pub reader: Reader,
-}
-
 impl Reader {
     pub fn fresh() -> Self
         ensures { result ≡ fresh_reader }
     {
-        let previous = pitch::fresh_lag();
         Reader {
-            previous,
+            previous: pitch::fresh_lag(),
             next: Subframe::One,
             start: 0,
         }
@@ -51,49 +39,39 @@ impl Reader {
         Reader::fresh()
     }
 
-    pub fn read(self, subframe: u8, index: u8) -> ReaderStep
-        ensures { (told_reading result.reading ≡ (read self subframe index).answer) × (result.reader ≡ (read self subframe index).after) }
+    #[tactic(auto, unfolding(crate::specs::Readers::read))]
+    pub fn read(self, subframe: u8, index: u8) -> Step<PitchLag, Self>
+        ensures { told_step result ≡ read self subframe index }
     {
-        if subframe < 1 {
-            return self.refused(Refusal::Subframe(subframe));
-        }
-        if 4 < subframe {
-            return self.refused(Refusal::Subframe(subframe));
-        }
-        let due = self.next;
-        if subframe != due.number() {
-            return self.refused(Refusal::Order(due.number()));
-        }
-        if !due.absolute() & (MAX_DELTA_INDEX < index) {
-            return self.refused(Refusal::RelativeIndex(index));
-        }
-        let previous = self.previous.samples;
-        let start = start_used(due, previous);
-        self.taken(PitchLag::decoded(due, index, previous), start)
-    }
-
-    fn refused(self, refusal: Refusal) -> ReaderStep
-        ensures { (told_reading result.reading ≡ turned_down refusal) × (result.reader ≡ self) }
-    {
-        ReaderStep {
-            reading: Reading::Refused(refusal),
-            reader: self,
-        }
-    }
-
-    fn taken(self, lag: PitchLag, start: u16) -> ReaderStep
-        ensures { (told_reading result.reading ≡ values lag) × (result.reader ≡ record { previous = lag; next = following self.next; start = start }) }
-    {
-        let due = self.next;
-        let next = due.next();
-        let reader = Reader {
-            previous: lag,
-            next,
-            start,
+        let answer = self.checked_lag(subframe, index);
+        let after = match answer {
+            Ok(lag) => self.after(lag),
+            Err(_) => self,
         };
-        ReaderStep {
-            reading: Reading::Lag(lag),
-            reader,
+        Step { answer, after }
+    }
+
+    // The lag of an index that the checks let through.
+    fn checked_lag(self, subframe: u8, index: u8) -> Result<PitchLag, Refusal>
+        ensures { told result ≡ checked (reading_checks self subframe index) refused (values (lag_of handset self.next self.previous.samples index)) }
+    {
+        let due = self.next;
+        if Subframe::try_from(subframe)? != due {
+            return Err(Refusal::Order(u8::from(due)));
+        }
+        if !due.absolute() && MAX_DELTA_INDEX < index {
+            return Err(Refusal::RelativeIndex(index));
+        }
+        Ok(PitchLag::decoded(due, index, self.previous.samples))
+    }
+
+    fn after(self, lag: PitchLag) -> Self
+        ensures { result ≡ record { previous = lag; next = following self.next; start = start_used handset self.next self.previous.samples } }
+    {
+        Reader {
+            previous: lag,
+            next: self.next.next(),
+            start: start_used(self.next, self.previous.samples),
         }
     }
 }

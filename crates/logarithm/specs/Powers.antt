@@ -1,10 +1,8 @@
 -- TS 26.073 Pow2: take the table's entry, draw the straight line to the next, shift down with rounding.
 use Rattle.std.specs.Prelude.{List, [], ◌∷◌, ℕ, zero, suc, ◌+◌, ◌-◌, ◌*◌, ◌/◌, ◌%◌, ◌^◌, ℤ, pos}
 use Rattle.fixed.specs.Line.{table_line}
-use Rattle.refusal.specs.Refused.{Told, values, refused, turned_down}
+use Rattle.refusal.specs.Refused.{Told, values, refused}
 use Rattle.refusal.specs.Checks.{checked, power_exponent, power_fraction}
-use Rattle.logarithm.specs.declared.Power.{Power}
-use Rattle.logarithm.specs.declared.Power.TheVariants.{Value, Refused}
 
 -- 2 ^ (k / 32) in Q14
 unfoldable pub pow2_table : List ℕ
@@ -18,11 +16,6 @@ shr_r v (suc n) = v / 2 ^ suc n + v / 2 ^ n % 2
 -- the value, for an exponent up to 30 and a fraction up to 32767
 unfoldable pub power : ℕ → ℕ → ℕ
 power exponent fraction = shr_r (table_line pow2_table 0 (fraction * 32768)) (30 - exponent)
-
--- an answer as 01 gives it
-abbrev pub told : Power → Told ℤ
-told (Value v) = values v
-told (Refused r) = turned_down r
 
 -- `pow2`: 01, number 7, the exponent; then 02, number 14, the fraction
 unfoldable pub Pow2 : ℕ → ℕ → Told ℤ

@@ -3,7 +3,8 @@
 
 ghost use Rattle.std.specs.Prelude.{◌≡◌, ◌<◌, ◌≤◌, ◌^◌, pos};
 ghost use Rattle.logarithm.specs.Logarithms.{Log2, log2_of};
-ghost use Rattle.logarithm.specs.Powers.{shr_r, power, told, Pow2};
+ghost use Rattle.logarithm.specs.Powers.{shr_r, power, Pow2};
+ghost use Rattle.refusal.specs.Refused.{told};
 
 use refusal::Refusal;
 
@@ -21,12 +22,13 @@ const POW2_TABLE: [u16; 33] = [
 
 // The logarithm to base 2: a whole number and a fraction of 15 bits.
 #[repr(C)]
-#[derive(Clone, Copy)]
+#[derive(Clone, Copy, Debug, PartialEq, Eq)]
 pub struct Logarithm {
     pub exponent: u8,
     pub fraction_q15: u16,
 }
 
+#[tactic(auto, using(fixed::proofs::Signs::not_positive, fixed::proofs::Signs::is_positive), unfolding(crate::specs::Logarithms::Log2))]
 pub fn log2(value: i32) -> Logarithm
     ensures { result ≡ Log2 value }
 {
@@ -36,15 +38,16 @@ pub fn log2(value: i32) -> Logarithm
             fraction_q15: 0,
         };
     }
-    positive_log2(fixed::unsigned_abs(value))
+    positive_log2(value.unsigned_abs())
 }
 
+#[tactic(auto, using(fixed::proofs::Norms::one_zero, fixed::proofs::Norms::norm_is, fixed::proofs::Norms::normal_range, fixed::proofs::Norms::normal_is), unfolding(crate::specs::Logarithms::log2_of, fixed::specs::Line::table_line, crate::specs::Logarithms::log2_table))]
 fn positive_log2(u: u32) -> Logarithm
     requires { (0 < u) × (u < 2 ^ 31) }
     ensures { result ≡ log2_of u }
 {
     let table = LOG2_TABLE;
-    let shift = u32::leading_zeros(u) - 1;
+    let shift = u.leading_zeros() - 1;
     let m = u << shift;
     let i = (m / 33554432 - 32) as usize;
     let line = compound::interpolated(table[i], table[i + 1], m);
@@ -54,24 +57,18 @@ fn positive_log2(u: u32) -> Logarithm
     }
 }
 
-// What `pow2` answers.
-#[derive(Clone, Copy)]
-pub enum Power {
-    Value(i32),
-    Refused(Refusal),
-}
-
 // 2 to the power of exponent + fraction / 32768.
-pub fn pow2(exponent: u8, fraction_q15: u16) -> Power
+#[tactic(auto, unfolding(crate::specs::Powers::Pow2))]
+pub fn pow2(exponent: u8, fraction_q15: u16) -> Result<i32, Refusal>
     ensures { told result ≡ Pow2 exponent fraction_q15 }
 {
     if 30 < exponent {
-        return Power::Refused(Refusal::Exponent(exponent as i16));
+        return Err(Refusal::Exponent(exponent as i16));
     }
     if 32767 < fraction_q15 {
-        return Power::Refused(Refusal::Fraction(fraction_q15));
+        return Err(Refusal::Fraction(fraction_q15));
     }
-    Power::Value(bounded_pow2(exponent, fraction_q15))
+    Ok(bounded_pow2(exponent, fraction_q15))
 }
 
 fn bounded_pow2(exponent: u8, fraction_q15: u16) -> i32

@@ -1,2 +1,3 @@
 -- The laws that belong to no one function.
+pub mod Checkings
 pub mod Lengths

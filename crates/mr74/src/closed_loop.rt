@@ -1,17 +1,14 @@
 // The closed loop. A searcher or a lag reader crosses as numbers.
 ghost use Rattle.std.specs.Prelude.{◌≡◌};
-ghost use Rattle.refusal.specs.Refused.{number, detail};
+ghost use Rattle.refusal.specs.Refused.{told};
 ghost use Rattle.pitch_convolution.specs.Filters.{convolve};
 ghost use Rattle.pitch_state.specs.States.{fresh_state};
 ghost use Rattle.pitch_state.specs.Calls.{search_in_numbers, read_in_numbers};
 ghost use Rattle.mr74.specs.Lengths.{length_answer};
-ghost use Rattle.mr74.specs.Pitches.{accepted_pitch, refused_pitch, pitch_answer, reading_answer};
+ghost use Rattle.mr74.specs.Pitches.{told_pitch, pitch_answer, reading_answer};
 
-use crate::filtering::{LengthAnswer, length_refused};
-use lag_reader::Reading;
-use pitch::PitchLag;
-use pitch_convolution::Convolution;
-use pitch_search::Found;
+use crate::filtering::{LengthAnswer, length_answer};
+use pitch_search::SearchedPitch;
 use pitch_state::PitchState;
 use refusal::Refusal;
 
@@ -37,6 +34,7 @@ pub extern "C" fn mr74_fresh_pitch() -> PitchState
     pitch_state::fresh()
 }
 
+#[tactic(auto, unfolding(crate::specs::Pitches::pitch_answer))]
 #[unsafe(no_mangle)]
 pub extern "C" fn mr74_pitch_search(
     state: PitchState,
@@ -58,28 +56,17 @@ pub extern "C" fn mr74_pitch_search(
         second,
         subframe,
     );
-    let found = step.found;
-    let after = step.state;
-    match found {
-        Found::Pitch(pitch) => {
-            let lag = pitch.lag;
-            accepted(pitch.index, lag, after)
-        }
-        Found::Refused(refusal) => refused(refusal, after),
-    }
+    pitch_answer(step.answer, step.after)
 }
 
+#[tactic(auto, unfolding(crate::specs::Pitches::reading_answer))]
 #[unsafe(no_mangle)]
 pub extern "C" fn mr74_read_lag(state: PitchState, subframe: u8, index: u8) -> PitchAnswer
     ensures { result ≡ reading_answer (read_in_numbers state subframe index) }
 {
     let step = pitch_state::read(state, subframe, index);
-    let reading = step.reading;
-    let after = step.state;
-    match reading {
-        Reading::Lag(lag) => accepted(0, lag, after),
-        Reading::Refused(refusal) => refused(refusal, after),
-    }
+    let answer = step.answer.map(|lag| SearchedPitch { lag, index: 0 });
+    pitch_answer(answer, step.after)
 }
 
 #[unsafe(no_mangle)]
@@ -91,45 +78,34 @@ pub extern "C" fn mr74_convolve(
     ensures { (result ≡ length_answer (convolve input.now impulse_q12.now output.old).answer)
         × (output.new ≡ (convolve input.now impulse_q12.now output.old).after) }
 {
-    match pitch_convolution::convolve(input, impulse_q12, output) {
-        Convolution::Written => LengthAnswer {
+    length_answer(pitch_convolution::convolve(input, impulse_q12, output))
+}
+
+fn pitch_answer(answer: Result<SearchedPitch, Refusal>, after: PitchState) -> PitchAnswer
+    ensures { result ≡ told_pitch (told answer) after }
+{
+    match answer {
+        Ok(pitch) => PitchAnswer {
             number: 0,
             magnitude: 0,
+            index: pitch.index,
+            samples: pitch.lag.samples,
+            fraction: i16::from(pitch.lag.fraction),
+            previous_samples: after.samples,
+            previous_fraction: after.fraction,
+            next: after.next,
+            start: after.start,
         },
-        Convolution::Refused(refusal) => length_refused(refusal),
-    }
-}
-
-fn accepted(index: u8, lag: PitchLag, after: PitchState) -> PitchAnswer
-    ensures { result ≡ accepted_pitch index lag after }
-{
-    let fraction = lag.fraction;
-    PitchAnswer {
-        number: 0,
-        magnitude: 0,
-        index,
-        samples: lag.samples,
-        fraction: fraction.thirds(),
-        previous_samples: after.samples,
-        previous_fraction: after.fraction,
-        next: after.next,
-        start: after.start,
-    }
-}
-
-fn refused(refusal: Refusal, after: PitchState) -> PitchAnswer
-    ensures { result ≡ refused_pitch (number refusal) (detail refusal) after }
-{
-    let detail = refusal.detail();
-    PitchAnswer {
-        number: refusal.number(),
-        magnitude: detail.magnitude,
-        index: 0,
-        samples: 0,
-        fraction: 0,
-        previous_samples: after.samples,
-        previous_fraction: after.fraction,
-        next: after.next,
-        start: after.start,
+        Err(refusal) => PitchAnswer {
+            number: refusal.number(),
+            magnitude: refusal.detail().magnitude,
+            index: 0,
+            samples: 0,
+            fraction: 0,
+            previous_samples: after.samples,
+            previous_fraction: after.fraction,
+            next: after.next,
+            start: after.start,
+        },
     }
 }

@@ -1,11 +1,13 @@
 // The gain row. A limit is 0, unrestricted, or 1, resonance.
 ghost use Rattle.std.specs.Prelude.{◌≡◌};
-ghost use Rattle.gain_pitch.specs.Gains.{told_gain, pitch_gain};
-ghost use Rattle.gain.specs.Rows.{told_row, quantize};
+ghost use Rattle.refusal.specs.Refused.{told};
+ghost use Rattle.gain_pitch.specs.Gains.{pitch_gain};
+ghost use Rattle.gain.specs.Rows.{quantize};
 ghost use Rattle.mr74.specs.Gains.{pitch_gain_answer, gain_answer};
 
-use gain::Quantized;
-use gain_pitch::FoundGain;
+use gain::QuantizedGain;
+use gain_pitch::PitchGain;
+use refusal::Refusal;
 
 #[repr(C)]
 #[derive(Clone, Copy)]
@@ -29,11 +31,11 @@ pub extern "C" fn mr74_pitch_gain(target: &[i16], adaptive: &[i16]) -> PitchGain
     pitch_gain_answer(answer)
 }
 
-fn pitch_gain_answer(answer: FoundGain) -> PitchGainAnswer
-    ensures { result ≡ pitch_gain_answer (told_gain answer) }
+fn pitch_gain_answer(answer: Result<PitchGain, Refusal>) -> PitchGainAnswer
+    ensures { result ≡ pitch_gain_answer (told answer) }
 {
     match answer {
-        FoundGain::Gain(gain) => PitchGainAnswer {
+        Ok(gain) => PitchGainAnswer {
             number: 0,
             magnitude: 0,
             gain_q14: gain.gain_q14,
@@ -44,7 +46,7 @@ fn pitch_gain_answer(answer: FoundGain) -> PitchGainAnswer
             energy_clips: gain.energy_clips,
             target_clips: gain.target_clips,
         },
-        FoundGain::Refused(refusal) => {
+        Err(refusal) => {
             let detail = refusal.detail();
             PitchGainAnswer {
                 number: refusal.number(),
@@ -100,11 +102,11 @@ pub extern "C" fn mr74_quantize(
     gain_answer(answer)
 }
 
-fn gain_answer(answer: Quantized) -> GainAnswer
-    ensures { result ≡ gain_answer (told_row answer) }
+fn gain_answer(answer: Result<QuantizedGain, Refusal>) -> GainAnswer
+    ensures { result ≡ gain_answer (told answer) }
 {
     match answer {
-        Quantized::Row(chosen) => {
+        Ok(chosen) => {
             let row = chosen.row;
             GainAnswer {
                 number: 0,
@@ -121,7 +123,7 @@ fn gain_answer(answer: Quantized) -> GainAnswer
                 adaptive_innovation_clips: chosen.adaptive_innovation_clips,
             }
         }
-        Quantized::Refused(refusal) => {
+        Err(refusal) => {
             let detail = refusal.detail();
             GainAnswer {
                 number: refusal.number(),

@@ -4,7 +4,7 @@ ghost use Rattle.pitch.specs.Kinds.{told_lag, try_lag};
 ghost use Rattle.mr74.specs.OpenLoops.{lag_answer, open_loop};
 
 use open_loop::Detector;
-use pitch::{OpenLoop, OpenLoopLag};
+use pitch::OpenLoopLag;
 use refusal::Refusal;
 
 #[repr(C)]
@@ -20,22 +20,20 @@ pub extern "C" fn mr74_open_loop(samples_q0: &[i16], history_q0: &mut [i16]) -> 
     ensures { (result ≡ lag_answer (open_loop samples_q0.now history_q0.old).answer)
         × (history_q0.new ≡ (open_loop samples_q0.now history_q0.old).after) }
 {
-    if samples_q0.len() != 80 {
-        return lag_answer(OpenLoop::Refused(Refusal::Length(samples_q0.len())));
-    }
-    if history_q0.len() != 143 {
-        return lag_answer(OpenLoop::Refused(Refusal::Length(history_q0.len())));
-    }
-    let mut old = [0i16; 143];
-    sums::copy(history_q0, &mut old);
+    lag_answer(pushed(samples_q0, history_q0))
+}
+
+#[tactic(auto, unfolding(crate::specs::OpenLoops::open_loop))]
+fn pushed(samples_q0: &[i16], history_q0: &mut [i16]) -> Result<OpenLoopLag, Refusal>
+    ensures { (told_lag result ≡ (open_loop samples_q0.now history_q0.old).answer)
+        × (history_q0.new ≡ (open_loop samples_q0.now history_q0.old).after) }
+{
+    refusal::of_length::<80>(samples_q0)?;
+    let old = *refusal::of_length::<143>(history_q0)?;
     let detector = Detector { history_q0: old };
     let step = detector.push(samples_q0);
-    let lag = step.lag;
-    let after = step.detector;
-    let words = after.history_q0;
-    let kept: &[i16] = &words;
-    sums::copy(kept, history_q0);
-    lag_answer(lag)
+    history_q0.copy_from_slice(&step.after.history_q0);
+    step.answer
 }
 
 // A lag that the open loop may answer, 20 to 143.
@@ -47,16 +45,16 @@ pub extern "C" fn mr74_open_loop_lag(samples: u16) -> OpenLoopAnswer
     lag_answer(lag)
 }
 
-fn lag_answer(lag: OpenLoop) -> OpenLoopAnswer
+fn lag_answer(lag: Result<OpenLoopLag, Refusal>) -> OpenLoopAnswer
     ensures { result ≡ lag_answer (told_lag lag) }
 {
     match lag {
-        OpenLoop::Lag(found) => OpenLoopAnswer {
+        Ok(found) => OpenLoopAnswer {
             number: 0,
             magnitude: 0,
             lag: found.samples(),
         },
-        OpenLoop::Refused(refusal) => {
+        Err(refusal) => {
             let detail = refusal.detail();
             OpenLoopAnswer {
                 number: refusal.number(),

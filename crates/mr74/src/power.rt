@@ -4,7 +4,7 @@ ghost use Rattle.logarithm.specs.Logarithms.{Log2};
 ghost use Rattle.logarithm.specs.Powers.{Pow2};
 ghost use Rattle.mr74.specs.Powers.{power_answer};
 
-use logarithm::{Logarithm, Power};
+use logarithm::Logarithm;
 
 #[repr(C)]
 #[derive(Clone, Copy)]
@@ -22,18 +22,19 @@ pub extern "C" fn mr74_log2(value: i32) -> Logarithm
     logarithm::log2(value)
 }
 
+#[tactic(auto, unfolding(crate::specs::Powers::power_answer))]
 #[unsafe(no_mangle)]
 pub extern "C" fn mr74_pow2(exponent: u8, fraction_q15: u16) -> PowerAnswer
     ensures { result ≡ power_answer (Pow2 exponent fraction_q15) }
 {
     match logarithm::pow2(exponent, fraction_q15) {
-        Power::Value(value) => PowerAnswer {
+        Ok(value) => PowerAnswer {
             number: 0,
             negative: false,
             magnitude: 0,
             value,
         },
-        Power::Refused(refusal) => {
+        Err(refusal) => {
             let detail = refusal.detail();
             PowerAnswer {
                 number: refusal.number(),

@@ -1,12 +1,14 @@
 // The pulses. The lists that are handed back are lent by the caller.
 ghost use Rattle.std.specs.Prelude.{◌≡◌};
-ghost use Rattle.codebook.specs.Readers.{told_places, decode};
-ghost use Rattle.codebook_search.specs.Pulses.{told_words, lent, pulses};
+ghost use Rattle.refusal.specs.Refused.{told};
+ghost use Rattle.codebook.specs.Readers.{decode};
+ghost use Rattle.codebook_search.specs.Pulses.{lent, pulses};
 ghost use Rattle.mr74.specs.Pulses.{pulses_answer, places_answer};
 
-use codebook::PulseReading;
-use codebook_search::Pulses;
+use codebook::Places;
+use codebook_code::PulseWords;
 use codebook_sharpening::SharpeningGain;
+use refusal::Refusal;
 
 #[repr(C)]
 #[derive(Clone, Copy)]
@@ -42,17 +44,17 @@ pub extern "C" fn mr74_pulse_search(
     pulses_answer(answer)
 }
 
-fn pulses_answer(answer: Pulses) -> PulsesAnswer
-    ensures { result ≡ pulses_answer (told_words answer) }
+fn pulses_answer(answer: Result<PulseWords, Refusal>) -> PulsesAnswer
+    ensures { result ≡ pulses_answer (told answer) }
 {
     match answer {
-        Pulses::Words(words) => PulsesAnswer {
+        Ok(words) => PulsesAnswer {
             number: 0,
             magnitude: 0,
             positions: words.positions,
             signs: words.signs,
         },
-        Pulses::Refused(refusal) => {
+        Err(refusal) => {
             let detail = refusal.detail();
             PulsesAnswer {
                 number: refusal.number(),
@@ -88,11 +90,11 @@ pub extern "C" fn mr74_read_pulses(
     places_answer(reading)
 }
 
-fn places_answer(reading: PulseReading) -> PlacesAnswer
-    ensures { result ≡ places_answer (told_places reading) }
+fn places_answer(reading: Result<Places, Refusal>) -> PlacesAnswer
+    ensures { result ≡ places_answer (told reading) }
 {
     match reading {
-        PulseReading::Places(places) => PlacesAnswer {
+        Ok(places) => PlacesAnswer {
             number: 0,
             magnitude: 0,
             first: places.first,
@@ -100,7 +102,7 @@ fn places_answer(reading: PulseReading) -> PlacesAnswer
             third: places.third,
             last: places.last,
         },
-        PulseReading::Refused(refusal) => {
+        Err(refusal) => {
             let detail = refusal.detail();
             PlacesAnswer {
                 number: refusal.number(),

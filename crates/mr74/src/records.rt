@@ -3,8 +3,6 @@ ghost use Rattle.std.specs.Prelude.{◌≡◌};
 ghost use Rattle.feed.specs.Records.{header};
 ghost use Rattle.mr74.specs.Records.{record_answer};
 
-use feed::Header;
-
 #[repr(C)]
 #[derive(Clone, Copy)]
 pub struct RecordAnswer {
@@ -22,24 +20,24 @@ pub extern "C" fn mr74_record(feed: &[u8], at: usize) -> RecordAnswer
     ensures { result ≡ record_answer at (header feed.now at) }
 {
     match feed::header_at(feed, at) {
-        Header::End => RecordAnswer {
+        Ok(None) => RecordAnswer {
             number: 0,
             magnitude: 0,
             kind: 7,
             from: 0,
             length: 0,
         },
-        Header::Record { kind, next } => {
+        Ok(Some(record)) => {
             let from = at + 1;
             RecordAnswer {
                 number: 0,
                 magnitude: 0,
-                kind,
+                kind: u8::from(record.kind),
                 from,
-                length: next - from,
+                length: record.next - from,
             }
         }
-        Header::Refused(refusal) => {
+        Err(refusal) => {
             let detail = refusal.detail();
             RecordAnswer {
                 number: refusal.number(),

@@ -1,17 +1,20 @@
 // One step on the record at a place. Detector, searcher and reader cross as in their stages; the 160 words of a filtering record are lent.
-ghost use Rattle.std.specs.Prelude.{[], ◌≡◌, length};
-ghost use Rattle.refusal.specs.Refused.{values, refused, turned_down};
-ghost use Rattle.refusal.specs.Checks.{checked};
-ghost use Rattle.feed.specs.Records.{body_length, header, body};
+ghost use Rattle.std.specs.Prelude.{[], ◌∷◌, ◌≡◌, length};
+ghost use Rattle.refusal.specs.Refused.{values, refused, turned_down, told};
+ghost use Rattle.refusal.specs.Checks.{checked, length_is};
+ghost use Rattle.feed.specs.Records.{kind_number, body_length, header, body};
 ghost use Rattle.selection_answers.specs.Fields.{fields_of};
 ghost use Rattle.selection_answers.specs.Lines.{told_answer};
-ghost use Rattle.pitch_state.specs.Calls.{told_known};
-ghost use Rattle.mr74.specs.Steps.{subframes_of, subframes_at, state_after, step_answer, stepped, step_in_numbers};
+ghost use Rattle.pitch_state.specs.States.{searcher_of, reader_of};
+ghost use Rattle.selection.specs.Steps.{selection_of, step_lent};
+ghost use Rattle.mr74.specs.Steps.{subframes_of, subframes_at, state_after, step_answer, stepped, of_step, step_in_numbers};
 
-use feed::Header;
-use pitch_state::{Known, PitchState};
-use refusal::Refusal;
-use selection::LentStep;
+use feed::Kind;
+use lag_reader::Reader;
+use pitch_search::Search;
+use pitch_state::PitchState;
+use refusal::{Refusal, Step};
+use selection::ClosedLoop;
 use selection_answers::{Answer, Fields};
 
 #[repr(C)]
@@ -36,6 +39,7 @@ pub struct StepAnswer {
     pub reader_start: u16,
 }
 
+#[tactic(auto, unfolding(crate::specs::Steps::step_in_numbers))]
 #[unsafe(no_mangle)]
 pub extern "C" fn mr74_step(
     feed: &[u8],
@@ -49,83 +53,101 @@ pub extern "C" fn mr74_step(
         × (history_q0.new ≡ (step_in_numbers feed.now at searcher reader history_q0.old words.old).history)
         × (words.new ≡ (step_in_numbers feed.now at searcher reader history_q0.old words.old).words) }
 {
-    if history_q0.len() != 143 {
-        return refused_step(Refusal::Length(history_q0.len()), searcher, reader);
+    match checked(feed, at, searcher, reader, history_q0, words) {
+        Ok(()) => lent_step(feed, at, searcher, reader, history_q0, words),
+        Err(refusal) => refused_step(refusal, searcher, reader),
     }
-    if words.len() != 160 {
-        return refused_step(Refusal::Length(words.len()), searcher, reader);
+}
+
+// Numbers 1, of both lists, and 2.
+fn checked(
+    feed: &[u8],
+    at: usize,
+    searcher: PitchState,
+    reader: PitchState,
+    history_q0: &[i16],
+    words: &[i16],
+) -> Result<(), Refusal>
+    ensures { told result ≡ checked (length_is 143 history_q0.now ∷ length_is 160 words.now ∷ subframes_at (header feed.now at) (body feed.now at) searcher reader) refused (values tt) }
+{
+    refusal::of_length::<143>(history_q0)?;
+    refusal::of_length::<160>(words)?;
+    known_at(feed, at, searcher, reader)
+}
+
+fn known_at(feed: &[u8], at: usize, searcher: PitchState, reader: PitchState) -> Result<(), Refusal>
+    ensures { told result ≡ checked (subframes_at (header feed.now at) (body feed.now at) searcher reader) refused (values tt) }
+{
+    match feed::header_at(feed, at) {
+        Ok(Some(record)) => known_in(record.kind, feed::body_at(feed, at), searcher, reader),
+        Ok(None) => Ok(()),
+        Err(_) => Ok(()),
     }
-    let known = known_at(feed, at, searcher, reader);
-    if let Known::Refused(refusal) = known {
-        return refused_step(refusal, searcher, reader);
+}
+
+// Only the record that uses a state looks at the subframe that it expects.
+#[tactic(auto, unfolding(feed::specs::Records::lengths))]
+fn known_in(
+    kind: Kind,
+    body: &[u8],
+    searcher: PitchState,
+    reader: PitchState,
+) -> Result<(), Refusal>
+    requires { length body.now ≡ body_length (kind_number kind) }
+    ensures { told result ≡ checked (subframes_of (kind_number kind) body.now searcher reader) refused (values tt) }
+{
+    match kind {
+        Kind::Pitch => pitch_state::known_subframes(body[0], searcher.next),
+        Kind::LagReading => pitch_state::known_subframes(body[0], reader.next),
+        _ => Ok(()),
     }
+}
+
+// The step on copies of the two lists, which go back after it.
+fn lent_step(
+    feed: &[u8],
+    at: usize,
+    searcher: PitchState,
+    reader: PitchState,
+    history_q0: &mut [i16],
+    words: &mut [i16],
+) -> StepAnswer
+    requires { (length history_q0.old ≡ 143) × (length words.old ≡ 160) }
+    ensures { record { answer = result; history = history_q0.new; words = words.new } ≡ of_step searcher reader (step_lent (selection_of history_q0.old (searcher_of searcher) (reader_of reader)) words.old feed.now at) }
+{
     let mut old = [0i16; 143];
     let mut lent = [0i16; 160];
     sums::copy(history_q0, &mut old);
     sums::copy(words, &mut lent);
-    let step = selection::step_lent(
-        pitch_state::searcher_of(searcher),
-        pitch_state::reader_of(reader),
-        &mut old,
-        &mut lent,
-        feed,
-        at,
-    );
+    let ends = ClosedLoop {
+        searcher: Search::from(searcher),
+        reader: Reader::from(reader),
+    };
+    let step = selection::step_lent(ends, &mut old, &mut lent, feed, at);
     sums::copy(&old, history_q0);
     sums::copy(&lent, words);
     stepped(step, searcher, reader)
 }
 
-fn known_at(feed: &[u8], at: usize, searcher: PitchState, reader: PitchState) -> Known
-    ensures { told_known result ≡ checked (subframes_at (header feed.now at) (body feed.now at) searcher reader) refused (values tt) }
+fn stepped(step: Step<Answer, ClosedLoop>, searcher: PitchState, reader: PitchState) -> StepAnswer
+    ensures { result ≡ stepped (told_answer step.answer []) step.after.searcher step.after.reader searcher reader }
 {
-    match feed::header_at(feed, at) {
-        Header::End => Known::All,
-        Header::Record { kind, next: _ } => {
-            known_in(kind, feed::body_at(feed, at), searcher, reader)
-        }
-        Header::Refused(_) => Known::All,
-    }
-}
-
-// Only the record that uses a state looks at the subframe that it expects.
-fn known_in(kind: u8, body: &[u8], searcher: PitchState, reader: PitchState) -> Known
-    requires { length body.now ≡ body_length kind }
-    ensures { told_known result ≡ checked (subframes_of kind body.now searcher reader) refused (values tt) }
-{
-    if kind == 2 {
-        return pitch_state::known_subframes(body[0], searcher.next);
-    }
-    if kind == 6 {
-        return pitch_state::known_subframes(body[0], reader.next);
-    }
-    Known::All
-}
-
-fn stepped(step: LentStep, searcher: PitchState, reader: PitchState) -> StepAnswer
-    ensures { result ≡ stepped (told_answer step.answer []) step.searcher step.reader searcher reader }
-{
-    let answer = step.answer;
-    let fields = selection_answers::fields_of(answer);
-    let searched = pitch_state::searcher_numbers(step.searcher);
-    let read = pitch_state::reader_numbers(step.reader);
-    let searcher_after = state_after(2, fields, searched, searcher);
-    let reader_after = state_after(6, fields, read, reader);
+    let fields = selection_answers::fields_of(step.answer);
+    let searched = PitchState::from(step.after.searcher);
+    let read = PitchState::from(step.after.reader);
+    let searcher_after = state_after(Kind::Pitch, fields, searched, searcher);
+    let reader_after = state_after(Kind::LagReading, fields, read, reader);
     step_answer(fields, searcher_after, reader_after)
 }
 
 fn refused_step(refusal: Refusal, searcher: PitchState, reader: PitchState) -> StepAnswer
     ensures { result ≡ step_answer (fields_of (turned_down refusal)) searcher reader }
 {
-    step_answer(
-        selection_answers::fields_of(Answer::Refused(refusal)),
-        searcher,
-        reader,
-    )
+    step_answer(selection_answers::fields_of(Err(refusal)), searcher, reader)
 }
 
-fn state_after(kind: u8, fields: Fields, new: PitchState, given: PitchState) -> PitchState
-    ensures { result ≡ state_after kind fields new given }
+fn state_after(kind: Kind, fields: Fields, new: PitchState, given: PitchState) -> PitchState
+    ensures { result ≡ state_after (kind_number kind) fields new given }
 {
     if fields.number != 0 {
         return given;
@@ -133,7 +155,7 @@ fn state_after(kind: u8, fields: Fields, new: PitchState, given: PitchState) -> 
     if fields.line == 0 {
         return new;
     }
-    if fields.line == kind {
+    if fields.line == u8::from(kind) {
         return new;
     }
     given

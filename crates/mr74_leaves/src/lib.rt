@@ -8,77 +8,77 @@ ghost use Rattle.fixed.specs.Line.{line};
 ghost use Rattle.fixed.specs.Lists.{dot};
 ghost use Rattle.energy.specs.Root.{Inv_sqrt};
 
-use fixed::Halves;
+use fixed::{Clipped, Halves};
 use sums::EnergyAndSum;
 
 #[unsafe(no_mangle)]
 pub extern "C" fn leaf_clip16(v: i32) -> i16
     ensures { result ≡ clip 15 v }
 {
-    fixed::clip16(v)
+    i16::clip(v as i64)
 }
 
 #[unsafe(no_mangle)]
 pub extern "C" fn leaf_clip32(v: i64) -> i32
     ensures { result ≡ clip 31 v }
 {
-    fixed::clip32(v)
+    i32::clip(v)
 }
 
 #[unsafe(no_mangle)]
 pub extern "C" fn leaf_add16(a: i16, b: i16) -> i16
     ensures { result ≡ add a b }
 {
-    fixed::add16(a, b)
+    fixed::add(a, b)
 }
 
 #[unsafe(no_mangle)]
 pub extern "C" fn leaf_sub16(a: i16, b: i16) -> i16
     ensures { result ≡ sub a b }
 {
-    fixed::sub16(a, b)
+    fixed::sub(a, b)
 }
 
 #[unsafe(no_mangle)]
 pub extern "C" fn leaf_negate16(v: i16) -> i16
     ensures { result ≡ negate v }
 {
-    fixed::negate16(v)
+    fixed::negate(v)
 }
 
 #[unsafe(no_mangle)]
 pub extern "C" fn leaf_absolute16(v: i16) -> i16
     ensures { result ≡ abs_s v }
 {
-    fixed::absolute16(v)
+    fixed::absolute(v)
 }
 
 #[unsafe(no_mangle)]
 pub extern "C" fn leaf_add32(a: i32, b: i32) -> i32
     ensures { result ≡ L_add a b }
 {
-    fixed::add32(a, b)
+    fixed::add(a, b)
 }
 
 #[unsafe(no_mangle)]
 pub extern "C" fn leaf_sub32(a: i32, b: i32) -> i32
     ensures { result ≡ L_sub a b }
 {
-    fixed::sub32(a, b)
+    fixed::sub(a, b)
 }
 
 #[unsafe(no_mangle)]
 pub extern "C" fn leaf_negate32(v: i32) -> i32
     ensures { result ≡ L_negate v }
 {
-    fixed::negate32(v)
+    fixed::negate(v)
 }
 
 #[unsafe(no_mangle)]
 pub extern "C" fn leaf_absolute32(v: i32) -> i32
     ensures { result ≡ L_abs v }
 {
-    fixed::absolute32(v)
+    fixed::absolute(v)
 }
 
 #[unsafe(no_mangle)]
@@ -169,7 +169,7 @@ pub extern "C" fn leaf_shift(v: i32, n: i16) -> i32
 pub extern "C" fn leaf_shift_word(v: i16, n: i16) -> i16
     ensures { result ≡ shl v n }
 {
-    fixed::shift_word(v, n)
+    fixed::shift(v, n)
 }
 
 #[unsafe(no_mangle)]
@@ -190,7 +190,7 @@ pub extern "C" fn leaf_normalize(v: i32) -> i16
 pub extern "C" fn leaf_unsigned_abs(v: i32) -> u32
     ensures { result ≡ nat_abs v }
 {
-    fixed::unsigned_abs(v)
+    v.unsigned_abs()
 }
 
 #[unsafe(no_mangle)]

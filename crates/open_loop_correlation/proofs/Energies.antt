@@ -1,14 +1,16 @@
 -- Energies: squares from a place on, clipped once; and what an energy that is not clipped says of the correlations.
-use mathlib.Core.Path.{◌≡◌, refl, sym, ap}
+use mathlib.Core.Path.{◌≡◌, refl, sym, ap, ◌∙◌}
 use mathlib.Core.Bool.{true}
 use mathlib.Core.List.{List}
 use Prim.Native.Nat.{ℕ, zero, suc, ◌+◌, ◌-◌, ◌*◌, ◌^◌, ◌≤◌, ◌<◌, min}
 use native.Mathlib.Omega.{arith}
 use lib.IntN.{ℤ, pos, nat_abs, ◌*ℤ◌}
 use lib.Signed.{lt_z}
+use lib.ListN.{take, drop}
 use borrow.Author.Tests.{le-leb}
 use mir.Syntax.{w32}
 use mir.Val.{SFits}
+use Rattle.std.proofs.lemmas.List.{get_or-take, get_or-drop}
 use Rattle.fixed.specs.Operators.{L_add, L_mult}
 use Rattle.fixed.specs.Lists.{at, L_sum}
 use Rattle.fixed.proofs.Bounds.{fits_abs, abs_mul}
@@ -31,6 +33,13 @@ module _ (xs : List ℤ) where
   pub energy_within : (a n : ℕ) → a + n ≤ 223 → energy_from xs a n ≡ products xs a a n
   unfolding energy_from
   energy_within a n h = rw (le-leb (a + n) 223 h)
+
+  -- and so of a part of the words
+  pub energy_part : (a n : ℕ) → a + n ≤ 223 → pos (min (2 * squared (at (take (a + n - a) (drop a xs))) n) 2147483647) ≡ energy_from xs a n
+  energy_part a n h =
+      let m : a + n - a ≡ n = omega arith in
+      let s : squared (at (take n (drop a xs))) n ≡ squared (from a) n = squared_same (at (take n (drop a xs))) (from a) n (λ k l. rw (get_or-take n (drop a xs) k (pos 0) l) (get_or-drop a xs k (pos 0))) in
+      rw (m, s) (sym (energy_within a n h ∙ energy_at a n))
 
   -- and from the first on
   pub energy_whole : (n : ℕ) → products xs 0 0 n ≡ pos (min (2 * squared (at xs) n) 2147483647)

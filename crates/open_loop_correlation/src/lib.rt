@@ -1,8 +1,9 @@
 // The correlations of the open-loop lag, TS 26.073 comp_corr, from pitch/open_loop.rs.
 #![tactic(auto)]
 
-ghost use Rattle.std.specs.Prelude.{true, ◌≡◌, ◌+◌, ◌-◌, ◌≤◌, ◌<◌, pos};
+ghost use Rattle.std.specs.Prelude.{true, ◌≡◌, ◌+◌, ◌≤◌, pos};
 ghost use Rattle.std.specs.Int.Signed.{lt_z};
+ghost use Rattle.fixed.specs.Lists.{tabulate};
 ghost use Rattle.open_loop_correlation.specs.Correlations.{products, energy_from, correlation, by_lag};
 
 const HALF_FRAME_SAMPLES: usize = 80;
@@ -30,21 +31,14 @@ pub fn correlations(words: &[i16; 223]) -> [i32; 144]
 pub fn energy(words: &[i16; 223], from: usize, count: usize) -> i32
     ensures { result ≡ energy_from words.now from count }
 {
-    if INPUT_SAMPLES < from {
-        return 0;
-    }
-    if INPUT_SAMPLES - from < count {
+    if INPUT_SAMPLES < from || INPUT_SAMPLES - from < count {
         return 0;
     }
     let mut sum: u64 = 0;
-    for i in 0..count {
-        let v = words[from + i];
-        sum = sum + fixed::exact(v, v) as u32 as u64;
+    for word in &words[from..from + count] {
+        sum += sums::square(*word) as u64;
     }
-    if 1073741823 < sum {
-        return 2147483647;
-    }
-    (2 * sum) as i32
+    sums::held_energy(sum)
 }
 
 // ---- Sums that are not clipped.
@@ -68,7 +62,7 @@ fn plain_at(words: &[i16; 223], lag: usize) -> i32
     let from = HISTORY_SAMPLES - lag;
     let mut sum: i32 = 0;
     for i in 0..HALF_FRAME_SAMPLES {
-        sum = sum + fixed::exact(words[HISTORY_SAMPLES + i], words[from + i]);
+        sum += fixed::exact(words[HISTORY_SAMPLES + i], words[from + i]);
     }
     2 * sum
 }
@@ -80,57 +74,26 @@ fn clipped_table(words: &[i16; 223]) -> [i32; 144]
     ensures { result ≡ by_lag words.now }
 {
     let mut table = [0i32; LAGS];
-    let mut lag = MINIMUM_LAG;
-    while lag < LAGS {
-        let sums = four_at(words, lag);
-        let a = sums.a;
-        let b = sums.b;
-        let c = sums.c;
-        let d = sums.d;
-        table[lag] = a;
-        table[lag + 1] = b;
-        table[lag + 2] = c;
-        table[lag + 3] = d;
-        lag += 4;
+    for lag in (MINIMUM_LAG..LAGS).step_by(4) {
+        table[lag..lag + 4].copy_from_slice(&four_at(words, lag));
     }
     table
 }
 
-// The correlations of four neighbouring lags.
-#[derive(Clone, Copy)]
-struct Four {
-    a: i32,
-    b: i32,
-    c: i32,
-    d: i32,
-}
-
-// The four sums grow side by side, each in its own order.
-fn four_at(words: &[i16; 223], lag: usize) -> Four
+// The correlations of four neighbouring lags. The four sums grow side by side, each in its own order.
+fn four_at(words: &[i16; 223], lag: usize) -> [i32; 4]
     requires { lag + 3 ≤ 143 }
-    ensures { result ≡ record { a = correlation words.now lag; b = correlation words.now (lag + 1); c = correlation words.now (lag + 2); d = correlation words.now (lag + 3) } }
+    ensures { result ≡ tabulate (λ n. correlation words.now (lag + n)) 4 }
 {
-    let mut a: i32 = 0;
-    let mut b: i32 = 0;
-    let mut c: i32 = 0;
-    let mut d: i32 = 0;
+    let mut sums = [0i32; 4];
     for i in 0..HALF_FRAME_SAMPLES {
-        a = grown(words, a, lag, i);
-        b = grown(words, b, lag + 1, i);
-        c = grown(words, c, lag + 2, i);
-        d = grown(words, d, lag + 3, i);
+        for n in 0..4 {
+            sums[n] = fixed::mac(
+                sums[n],
+                words[HISTORY_SAMPLES + i],
+                words[HISTORY_SAMPLES - (lag + n) + i],
+            );
+        }
     }
-    Four { a, b, c, d }
-}
-
-// The sum of a lag with one product more.
-fn grown(words: &[i16; 223], sum: i32, lag: usize, i: usize) -> i32
-    requires { (lag ≤ 143) × (i < 80) × (sum ≡ products words.now 143 (143 - lag) i) }
-    ensures { result ≡ products words.now 143 (143 - lag) (i + 1) }
-{
-    fixed::mac(
-        sum,
-        words[HISTORY_SAMPLES + i],
-        words[HISTORY_SAMPLES - lag + i],
-    )
+    sums
 }

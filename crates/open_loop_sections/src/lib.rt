@@ -30,21 +30,17 @@ fn scaled_all(input: &[i16; 223]) -> [i16; 223]
     ensures { result ≡ scaled_all input.now }
 {
     let energy = open_loop_correlation::energy(input, 0, INPUT_SAMPLES);
-    let mut words = [0i16; INPUT_SAMPLES];
-    for i in 0..INPUT_SAMPLES {
-        words[i] = scaled(input[i], energy);
-    }
-    words
+    std::array::from_fn(|i| scaled(input[i], energy))
 }
 
 fn scaled(v: i16, energy: i32) -> i16
     ensures { result ≡ scaled energy v }
 {
     if energy >= 2147483647 {
-        return fixed::shift_word(v, -3);
+        return fixed::shift(v, -3);
     }
     if energy < LOW_ENERGY_LIMIT {
-        return fixed::shift_word(v, 3);
+        return fixed::shift(v, 3);
     }
     v
 }
@@ -84,11 +80,10 @@ fn best_lag(table: &[i32; 144], low: usize, span: usize) -> usize
     ensures { result ≡ best lt_z (at table.now) low span }
 {
     let mut lag = low;
-    let mut i = 0;
-    while i < span {
-        i += 1;
-        if table[lag] < table[low + i] {
-            lag = low + i;
+    for i in 0..span {
+        let next = low + i + 1;
+        if table[lag] < table[next] {
+            lag = next;
         }
     }
     lag

@@ -1,14 +1,14 @@
 -- The numbers of 01 that stand behind fractions and subframes, the lag of a fresh searcher, and the open-loop lag.
-use Rattle.std.specs.Prelude.{Bool, true, false, [], ◌∷◌, ℕ, ℤ, pos, negsuc}
-use Rattle.refusal.specs.Refused.{Told, values, refused, turned_down}
+use Rattle.std.specs.Prelude.{Bool, true, false, [], ◌∷◌, ℕ, ℤ, pos, negsuc, Result}
+use Rattle.refusal.specs.Refused.{Told, values, refused, told, put}
+use Rattle.refusal.specs.declared.Refusal.{Refusal}
 use Rattle.refusal.specs.Checks.{checked, open_loop_lag}
 use Rattle.pitch.specs.declared.Fraction.{Fraction}
 use Rattle.pitch.specs.declared.Fraction.TheVariants.{MinusThird, Zero, PlusThird}
 use Rattle.pitch.specs.declared.Subframe.{Subframe}
 use Rattle.pitch.specs.declared.Subframe.TheVariants.{One, Two, Three, Four}
 use Rattle.pitch.specs.declared.PitchLag.{PitchLag}
-use Rattle.pitch.specs.declared.OpenLoop.{OpenLoop}
-use Rattle.pitch.specs.declared.OpenLoop.TheVariants.{Lag, Refused}
+use Rattle.pitch.specs.declared.OpenLoopLag.{OpenLoopLag}
 use Rattle.pitch.specs.Windows.{handset}
 
 -- 01: 'Pitch fractions are −1, 0 or 1 thirds of a sample'
@@ -49,9 +49,8 @@ following Three = Four
 following Four = One
 
 -- the answer of `try_new`, as 01 gives it
-abbrev pub told_lag : OpenLoop → Told ℕ
-told_lag (Lag l) = values l.0
-told_lag (Refused r) = turned_down r
+abbrev pub told_lag : Result OpenLoopLag Refusal → Told ℕ
+told_lag r = put (λ l. l.0) (told r)
 
 -- 01, number 3, with an upper lag in place of 143
 abbrev pub try_within : ℕ → ℕ → Told ℕ

@@ -1,9 +1,11 @@
 // Pitch lags, from pitch.rs: the kinds of lag, the search windows, and the index rules in both directions.
 #![tactic(auto)]
 
-ghost use Rattle.std.specs.Prelude.{◌≡◌};
+ghost use Rattle.std.specs.Prelude.{[], ◌≡◌, ◌∷◌, ◌≤◌};
+ghost use Rattle.refusal.specs.Refused.{values, refused, told, put};
+ghost use Rattle.refusal.specs.Checks.{checked, known_subframe};
 ghost use Rattle.pitch.specs.Kinds.{thirds, from_zero, fresh_lag, subframe_number, absolute, following, told_lag, try_lag};
-ghost use Rattle.pitch.specs.Windows.{absolute_start, relative_start, handset};
+ghost use Rattle.pitch.specs.Windows.{window_start, absolute_start, relative_start, handset};
 ghost use Rattle.pitch.specs.Indexes.{absolute_index, relative_index, fraction_at, absolute_lag, relative_lag, index_of, lag_of};
 
 use refusal::Refusal;
@@ -23,26 +25,37 @@ const INTEGER_INDEX_BIAS: u32 = 112;
 // 58, and 1 since the fraction is counted from 0.
 const ABSOLUTE_INDEX_BIAS: u32 = 59;
 
+// The windows: 7 lags from 3 below an open-loop lag, 10 from 5 below the previous whole lag.
+const ABSOLUTE_SPAN: u16 = 6;
+
+const ABSOLUTE_RADIUS: u16 = 3;
+
+const RELATIVE_SPAN: u16 = 9;
+
+const RELATIVE_RADIUS: u16 = 5;
+
 // Thirds of a sample.
-#[derive(Clone, Copy)]
+#[derive(Clone, Copy, Debug, PartialEq, Eq)]
 pub enum Fraction {
     MinusThird,
     Zero,
     PlusThird,
 }
 
-impl Fraction {
-    pub fn thirds(self) -> i16
-        ensures { result ≡ thirds self }
-    {
-        match self {
+impl From<Fraction> for i16 {
+    ghost from_gives = { λ fraction result. result ≡ thirds fraction };
+
+    fn from(fraction: Fraction) -> i16 {
+        match fraction {
             Fraction::MinusThird => -1,
             Fraction::Zero => 0,
             Fraction::PlusThird => 1,
         }
     }
+}
 
-    // The same counted from 0.
+impl Fraction {
+    // Counted from 0.
     pub fn from_zero(self) -> u32
         ensures { result ≡ from_zero self }
     {
@@ -64,7 +77,7 @@ impl Fraction {
     }
 }
 
-#[derive(Clone, Copy)]
+#[derive(Clone, Copy, Debug, PartialEq, Eq)]
 pub enum Subframe {
     One,
     Two,
@@ -72,28 +85,41 @@ pub enum Subframe {
     Four,
 }
 
-impl Subframe {
-    pub fn number(self) -> u8
-        ensures { result ≡ subframe_number self }
-    {
-        match self {
+impl From<Subframe> for u8 {
+    ghost from_gives = { λ subframe result. result ≡ subframe_number subframe };
+
+    fn from(subframe: Subframe) -> u8 {
+        match subframe {
             Subframe::One => 1,
             Subframe::Two => 2,
             Subframe::Three => 3,
             Subframe::Four => 4,
         }
     }
+}
 
+impl TryFrom<u8> for Subframe {
+    type Error = Refusal;
+
+    ghost try_from_gives = { λ number result. put subframe_number (told result) ≡ checked (known_subframe number ∷ []) refused (values number) };
+
+    fn try_from(number: u8) -> Result<Self, Refusal> {
+        match number {
+            1 => Ok(Subframe::One),
+            2 => Ok(Subframe::Two),
+            3 => Ok(Subframe::Three),
+            4 => Ok(Subframe::Four),
+            _ => Err(Refusal::Subframe(number)),
+        }
+    }
+}
+
+impl Subframe {
     // Subframes one and three send a lag by itself, two and four beside the lag before.
     pub fn absolute(self) -> bool
         ensures { result ≡ absolute self }
     {
-        match self {
-            Subframe::One => true,
-            Subframe::Two => false,
-            Subframe::Three => true,
-            Subframe::Four => false,
-        }
+        matches!(self, Subframe::One | Subframe::Three)
     }
 
     pub fn next(self) -> Self
@@ -109,31 +135,21 @@ impl Subframe {
 }
 
 // A lag that the open loop may answer: made by `try_new` alone.
-#[derive(Clone, Copy)]
+#[derive(Clone, Copy, Debug, PartialEq, Eq)]
 pub struct OpenLoopLag(u16);
-
-// What `try_new` answers.
-#[derive(Clone, Copy)]
-pub enum OpenLoop {
-    Lag(OpenLoopLag),
-    Refused(Refusal),
-}
 
 impl OpenLoopLag {
     pub const MIN: u16 = 20;
 
     pub const MAX: u16 = 143;
 
-    pub fn try_new(samples: u16) -> OpenLoop
+    pub fn try_new(samples: u16) -> Result<Self, Refusal>
         ensures { told_lag result ≡ try_lag samples }
     {
-        if samples < OpenLoopLag::MIN {
-            return OpenLoop::Refused(Refusal::OpenLoopLag(samples));
+        if samples < OpenLoopLag::MIN || OpenLoopLag::MAX < samples {
+            return Err(Refusal::OpenLoopLag(samples));
         }
-        if OpenLoopLag::MAX < samples {
-            return OpenLoop::Refused(Refusal::OpenLoopLag(samples));
-        }
-        OpenLoop::Lag(OpenLoopLag(samples))
+        Ok(OpenLoopLag(samples))
     }
 
     pub fn samples(self) -> u16
@@ -144,7 +160,7 @@ impl OpenLoopLag {
 }
 
 // Whole samples and a fraction of one.
-#[derive(Clone, Copy)]
+#[derive(Clone, Copy, Debug, PartialEq, Eq)]
 pub struct PitchLag {
     pub samples: u16,
     pub fraction: Fraction,
@@ -235,25 +251,23 @@ impl PitchLag {
 pub fn absolute_start(centre: u16) -> u16
     ensures { result ≡ absolute_start handset centre }
 {
-    if centre < 23 {
-        return 20;
-    }
-    if 140 < centre {
-        return 137;
-    }
-    centre - 3
+    window_start(ABSOLUTE_SPAN, ABSOLUTE_RADIUS, centre)
 }
 
 pub fn relative_start(previous: u16) -> u16
     ensures { result ≡ relative_start handset previous }
 {
-    if previous < 25 {
-        return 20;
-    }
-    if 139 < previous {
-        return 134;
-    }
-    previous - 5
+    window_start(RELATIVE_SPAN, RELATIVE_RADIUS, previous)
+}
+
+// The start of span + 1 lags from `radius` below the centre, held so that they lie in the limits of an open-loop lag.
+fn window_start(span: u16, radius: u16, centre: u16) -> u16
+    requires { span ≤ 123 }
+    ensures { result ≡ window_start span radius handset centre }
+{
+    centre
+        .saturating_sub(radius)
+        .clamp(OpenLoopLag::MIN, OpenLoopLag::MAX - span)
 }
 
 // The lag of a fresh searcher and of a fresh reader.

@@ -26,11 +26,10 @@ fn best_lag(correlation: &[i16; 148], start: usize, span: usize) -> usize
     ensures { result ≡ best_lag correlation.now start span }
 {
     let mut lag = start;
-    let mut i = 0;
-    while i < span {
-        i += 1;
-        if correlation[start + i] >= correlation[lag] {
-            lag = start + i;
+    for i in 0..span {
+        let next = start + i + 1;
+        if correlation[next] >= correlation[lag] {
+            lag = next;
         }
     }
     lag
@@ -68,9 +67,8 @@ fn best_step(correlation: &[i16; 148], lag: usize) -> usize
     let table = INTERPOLATOR;
     let mut best = 0;
     let mut greatest = step_value(correlation, lag, 0, &table);
-    let mut step = 0;
-    while step < 4 {
-        step += 1;
+    for i in 0..4 {
+        let step = i + 1;
         let value = step_value(correlation, lag, step, &table);
         if greatest < value {
             greatest = value;
@@ -84,28 +82,14 @@ fn settled(lag: u16, step: usize) -> PitchLag
     requires { (1 ≤ lag) × (lag ≤ 143) }
     ensures { result ≡ settled lag step }
 {
-    match step {
-        0 => PitchLag {
-            samples: lag - 1,
-            fraction: Fraction::PlusThird,
-        },
-        1 => PitchLag {
-            samples: lag,
-            fraction: Fraction::MinusThird,
-        },
-        2 => PitchLag {
-            samples: lag,
-            fraction: Fraction::Zero,
-        },
-        3 => PitchLag {
-            samples: lag,
-            fraction: Fraction::PlusThird,
-        },
-        _ => PitchLag {
-            samples: lag + 1,
-            fraction: Fraction::MinusThird,
-        },
-    }
+    let (samples, fraction) = match step {
+        0 => (lag - 1, Fraction::PlusThird),
+        1 => (lag, Fraction::MinusThird),
+        2 => (lag, Fraction::Zero),
+        3 => (lag, Fraction::PlusThird),
+        _ => (lag + 1, Fraction::MinusThird),
+    };
+    PitchLag { samples, fraction }
 }
 
 fn chosen(absolute: bool, correlation: &[i16; 148], start: usize, span: usize) -> PitchLag

@@ -3,10 +3,8 @@ use Rattle.std.specs.Prelude.{List, [], ◌∷◌, ℕ, ℤ, pos}
 use Rattle.fixed.specs.Operators.{L_shl, extract_h}
 use Rattle.fixed.specs.Lists.{tabulate}
 use Rattle.sums.specs.Convolutions.{convolution}
-use Rattle.refusal.specs.Refused.{Told, values, turned_down}
+use Rattle.refusal.specs.Refused.{values}
 use Rattle.refusal.specs.Checks.{Outcome, unless_refused, length_is}
-use Rattle.pitch_convolution.specs.declared.Convolution.{Convolution}
-use Rattle.pitch_convolution.specs.declared.Convolution.TheVariants.{Written, Refused}
 
 -- place n: the sum of n + 1 products, clipped after every addition, shifted to the left by 3, its high word
 unfoldable pub convolved_at : List ℤ → List ℤ → ℕ → ℤ
@@ -17,11 +15,6 @@ unfoldable pub Convolve : List ℤ → List ℤ → List ℤ
 Convolve xs hs = tabulate (convolved_at xs hs) 40
 
 -- ---- the entry
--- an answer as 01 gives it: no value, since the list is lent
-abbrev pub told_convolution : Convolution → Told (Unit {0})
-told_convolution Written = values tt
-told_convolution (Refused r) = turned_down r
-
 -- 01, number 1, 'in the order of the Rust's arguments, a list to be written last': the answer, and the lent list after it
 unfoldable pub convolve : List ℤ → List ℤ → List ℤ → Outcome (Unit {0}) (List ℤ)
 convolve xs hs out =

@@ -1,40 +1,27 @@
 // TS 26.073 Convolve, from pitch/search.rs.
 #![tactic(auto)]
 
-ghost use Rattle.std.specs.Prelude.{◌≡◌};
-ghost use Rattle.pitch_convolution.specs.Filters.{Convolve, told_convolution, convolve};
+ghost use Rattle.std.specs.Prelude.{◌≡◌, pos};
+ghost use Rattle.fixed.specs.Operators.{extract_h, L_shl};
+ghost use Rattle.pitch_convolution.specs.Filters.{Convolve, convolve};
+ghost use Rattle.refusal.specs.Refused.{told};
 
+use fixed::Clipped;
 use refusal::Refusal;
 
 const SUBFRAME_SAMPLES: usize = 40;
 
-// What `convolve` answers.
-#[derive(Clone, Copy)]
-pub enum Convolution {
-    Written,
-    Refused(Refusal),
-}
-
 // TS 26.073 Convolve, which truncates.
-pub fn convolve(input: &[i16], impulse_q12: &[i16], output: &mut [i16]) -> Convolution
-    ensures { (told_convolution result ≡ (convolve input.now impulse_q12.now output.old).answer)
+#[tactic(auto, unfolding(crate::specs::Filters::convolve))]
+pub fn convolve(input: &[i16], impulse_q12: &[i16], output: &mut [i16]) -> Result<(), Refusal>
+    ensures { (told result ≡ (convolve input.now impulse_q12.now output.old).answer)
         × (output.new ≡ (convolve input.now impulse_q12.now output.old).after) }
 {
-    if input.len() != SUBFRAME_SAMPLES {
-        return Convolution::Refused(Refusal::Length(input.len()));
-    }
-    if impulse_q12.len() != SUBFRAME_SAMPLES {
-        return Convolution::Refused(Refusal::Length(impulse_q12.len()));
-    }
-    if output.len() != SUBFRAME_SAMPLES {
-        return Convolution::Refused(Refusal::Length(output.len()));
-    }
-    let words = sums::forty(input);
-    let impulse = sums::forty(impulse_q12);
-    let filtered = convolved(&words, &impulse);
-    let list: &[i16] = &filtered;
-    sums::copy(list, output);
-    Convolution::Written
+    let words = refusal::of_length(input)?;
+    let impulse = refusal::of_length(impulse_q12)?;
+    refusal::of_length::<SUBFRAME_SAMPLES>(output)?;
+    output.copy_from_slice(&convolved(words, impulse));
+    Ok(())
 }
 
 // The same on 40 words each.
@@ -43,10 +30,12 @@ pub fn convolved(input: &[i16; 40], impulse: &[i16; 40]) -> [i16; 40]
 {
     let mut sums = [0i32; 40];
     sums::convolution(input, impulse, &mut sums);
-    let mut output = [0i16; 40];
-    // The high word of a sum shifted to the left by 3, in one shift and one clip.
-    for n in 0..40 {
-        output[n] = fixed::clip16(sums[n] >> 13);
-    }
-    output
+    std::array::from_fn(|n| high_of_eightfold(sums[n]))
+}
+
+// The high word of a sum shifted to the left by 3, in one shift and one clip.
+fn high_of_eightfold(sum: i32) -> i16
+    ensures { result ≡ extract_h (L_shl sum (pos 3)) }
+{
+    i16::clip((sum >> 13) as i64)
 }

@@ -9,13 +9,12 @@ ghost use Rattle.sums.specs.Plain.{squared, weighed};
 ghost use Rattle.energy.specs.Root.{Inv_sqrt, inverses};
 ghost use Rattle.pitch_correlation.specs.Correlations.{scaled, scaled_all, update, correlations_from, Norm_Corr};
 
+use fixed::Clipped;
 use sums::EnergyAndSum;
 
 const SUBFRAME_SAMPLES: usize = 40;
 
 const HISTORY_SAMPLES: usize = 154;
-
-const EXCITATION_SAMPLES: usize = 194;
 
 const CORRELATION_SAMPLES: usize = 148;
 
@@ -34,18 +33,6 @@ const ROOM: u64 = 1073741824;
 // The square of that, less 1.
 const MOST_PRODUCT: u64 = 1152921504606846975;
 
-// 40 words of a list, from a place on.
-fn forty_from(list: &[i16], from: usize) -> [i16; 40]
-    requires { from + 40 ≤ length list.now }
-    ensures { result ≡ part list.now from 40 }
-{
-    let mut words = [0i16; 40];
-    for i in 0..40 {
-        words[i] = list[from + i];
-    }
-    words
-}
-
 // By the squares of the first list.
 fn is_loud(squares: u64) -> bool
     ensures { result ≡ lt_z (pos 67108864) (pos (min (2 * squares) 2147483647)) }
@@ -57,7 +44,7 @@ fn scaled(v: i16, loud: bool) -> i16
     ensures { result ≡ scaled loud v }
 {
     if loud {
-        return fixed::shift_word(v, -2);
+        return fixed::shift(v, -2);
     }
     v
 }
@@ -89,7 +76,7 @@ fn update(filtered: &[i16; 40], sample: i16, impulse: &[i16; 40], loud: bool) ->
     let shift = filter_shift(loud);
     let mut next = moved(filtered);
     for j in 0..40 {
-        next[j] = fixed::add16(compound::product_high(sample, impulse[j], shift), next[j]);
+        next[j] = fixed::add(compound::product_high(sample, impulse[j], shift), next[j]);
     }
     next[0] = scaled(sample, loud);
     next
@@ -119,7 +106,7 @@ fn room(target: &[i16; 40]) -> u64
 fn most_added(sample: i16, peak: u16, loud: bool) -> u64
     ensures { (result ≡ nat_abs sample * peak / 2 ^ cond loud 14 12 + 1) × (result ≤ 2 ^ 20) }
 {
-    ((sums::magnitude(sample) as u32 * peak as u32) >> (15 - filter_shift(loud))) as u64 + 1
+    ((sample.unsigned_abs() as u32 * peak as u32) >> (15 - filter_shift(loud))) as u64 + 1
 }
 
 // Whether the next list's squares are within the room. (a + b)² is at most 2 a² + 2 b², and the energy of the list before is its squares doubled.
@@ -127,7 +114,7 @@ fn is_within(energy: i32, added: u64, room: u64) -> bool
     requires { added ≤ 2 ^ 20 }
     ensures { result ≡ leb (nat_abs energy + 80 * (added * added)) room }
 {
-    fixed::unsigned_abs(energy) as u64 + 80 * (added * added) <= room
+    energy.unsigned_abs() as u64 + 80 * (added * added) <= room
 }
 
 // The energy and the sum with the target, in one walk. Whether it may be plain is known before it.
@@ -149,8 +136,8 @@ fn plain_walk(filtered: &[i16; 40], target: &[i16; 40]) -> EnergyAndSum
     let mut energy: i32 = 0;
     let mut sum: i32 = 0;
     for i in 0..40 {
-        energy = energy + fixed::exact(filtered[i], filtered[i]);
-        sum = sum + fixed::exact(filtered[i], target[i]);
+        energy += fixed::exact(filtered[i], filtered[i]);
+        sum += fixed::exact(filtered[i], target[i]);
     }
     EnergyAndSum {
         energy: 2 * energy,
@@ -163,7 +150,7 @@ fn normalized(energy: i32, sum: i32, roots: &[u16; 49]) -> i16
     ensures { result ≡ extract_h (L_shl (Mpy_32 sum (Inv_sqrt energy)) (pos 16)) }
 {
     let root = energy::inverse_sqrt_in(energy, roots);
-    fixed::clip16(compound::multiply(sum, root))
+    i16::clip(compound::multiply(sum, root) as i64)
 }
 
 // By the lag, from low up to, and without, end. Where the lists have other lengths, or there is no such lag, or one is above 147, every place is 0.
@@ -176,60 +163,47 @@ pub fn normalized_correlation(
 ) -> [i16; 148]
     ensures { result ≡ Norm_Corr excitation.now target.now impulse.now low end }
 {
-    if (excitation.len() == EXCITATION_SAMPLES)
-        & (target.len() == SUBFRAME_SAMPLES)
-        & (impulse.len() == SUBFRAME_SAMPLES)
-        & (low < end)
-        & (end <= CORRELATION_SAMPLES)
-    {
-        let response = sums::forty(impulse);
-        let first = pitch_convolution::convolved(
-            &forty_from(excitation, HISTORY_SAMPLES - low),
-            &response,
-        );
-        return correlated(
-            &first,
-            excitation,
-            &sums::forty(target),
-            &response,
-            low,
-            end,
-        );
+    match (excitation.as_array(), target.as_array(), impulse.as_array()) {
+        (Some(excitation), Some(target), Some(impulse))
+            if low < end && end <= CORRELATION_SAMPLES => {
+            let from = HISTORY_SAMPLES - low;
+            let past = sums::words_of(&excitation[from..from + SUBFRAME_SAMPLES]);
+            let first = pitch_convolution::convolved(&past, impulse);
+            correlated(&first, excitation, target, impulse, low, end)
+        }
+        _ => [0; CORRELATION_SAMPLES],
     }
-    [0; CORRELATION_SAMPLES]
 }
 
 // Each lag's list is made from the one before it and then walked once.
 fn correlated(
     first: &[i16; 40],
-    excitation: &[i16],
+    excitation: &[i16; 194],
     target: &[i16; 40],
     impulse: &[i16; 40],
     low: usize,
     end: usize,
 ) -> [i16; 148]
-    requires { (length excitation.now ≡ 194) × (low < end) × (end ≤ 148) }
+    requires { (low < end) × (end ≤ 148) }
     ensures { result ≡ correlations_from first.now excitation.now target.now impulse.now low end }
 {
     let roots = energy::inverse_table();
     let squares = sums::squares40(first);
     let loud = is_loud(squares);
     let room = room(target);
-    let peak = sums::greater(sums::peak(impulse), ONE);
+    let peak = sums::peak(impulse).max(ONE);
     let mut filtered = scaled_all(first, loud);
     let at_low = energy_and_sum(&filtered, target, squares <= room);
     let mut energy = at_low.energy;
     let mut correlation = [0i16; 148];
     correlation[low] = normalized(energy, at_low.sum, &roots);
-    let mut next = low + 1;
-    while next < end {
+    for next in low + 1..end {
         let sample = excitation[HISTORY_SAMPLES - next];
         let plain = is_within(energy, most_added(sample, peak, loud), room);
         filtered = update(&filtered, sample, impulse, loud);
         let at_next = energy_and_sum(&filtered, target, plain);
         energy = at_next.energy;
         correlation[next] = normalized(energy, at_next.sum, &roots);
-        next += 1;
     }
     correlation
 }

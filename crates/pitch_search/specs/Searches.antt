@@ -1,6 +1,6 @@
 -- TS 26.073 Pitch_fr as 01 has it: one search, what it answers and the searcher after it.
 use Rattle.std.specs.Prelude.{List, [], ◌∷◌, ℕ, ℤ}
-use Rattle.refusal.specs.Refused.{Told, values, turned_down}
+use Rattle.refusal.specs.Refused.{values}
 use Rattle.refusal.specs.Checks.{Check, Outcome, unless_refused, length_is, known_subframe, open_loop_lag, in_order}
 use Rattle.pitch.specs.declared.Subframe.TheVariants.{One}
 use Rattle.pitch.specs.declared.PitchLag.{PitchLag}
@@ -9,18 +9,11 @@ use Rattle.pitch.specs.Windows.{handset}
 use Rattle.pitch.specs.Indexes.{index_of}
 use Rattle.pitch_window.specs.Windows.{start_of, pitch_in}
 use Rattle.pitch_search.specs.declared.SearchedPitch.{SearchedPitch}
-use Rattle.pitch_search.specs.declared.Found.{Found}
-use Rattle.pitch_search.specs.declared.Found.TheVariants.{Pitch, Refused}
 use Rattle.pitch_search.specs.declared.Search.{Search}
 
 -- 'Fresh searcher and fresh reader: previous lag 40, expecting 1'; 02: the start of its window is '0 when fresh or reset'
 abbrev pub fresh_search : Search
 fresh_search = record { previous = fresh_lag; next = One; start = 0 }
-
--- an answer as 01 gives it
-abbrev pub told : Found → Told SearchedPitch
-told (Pitch p) = values p
-told (Refused r) = turned_down r
 
 -- what is answered and kept for a lag that is chosen in a window from start; 02 keeps that start too
 abbrev pub found_at : Search → ℕ → PitchLag → Outcome SearchedPitch Search

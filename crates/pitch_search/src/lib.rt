@@ -2,51 +2,37 @@
 #![tactic(auto)]
 
 ghost use Rattle.std.specs.Prelude.{◌≡◌};
-ghost use Rattle.refusal.specs.Refused.{values, turned_down};
-ghost use Rattle.pitch.specs.Kinds.{following};
-ghost use Rattle.pitch_search.specs.Searches.{fresh_search, told, accepted, Pitch_fr};
+ghost use Rattle.refusal.specs.Refused.{values, refused, told};
+ghost use Rattle.refusal.specs.Checks.{checked, told_step};
+ghost use Rattle.pitch_search.specs.Searches.{fresh_search, accepted, search_checks, Pitch_fr};
 
-use pitch::{OpenLoop, OpenLoopLag, PitchLag, Subframe};
-use refusal::Refusal;
+use pitch::{OpenLoopLag, PitchLag, Subframe};
+use refusal::{Refusal, Step};
 
 const SUBFRAME_SAMPLES: usize = 40;
 
 const EXCITATION_SAMPLES: usize = 194;
 
-#[derive(Clone, Copy)]
+#[derive(Clone, Copy, Debug, PartialEq, Eq)]
 pub struct SearchedPitch {
     pub lag: PitchLag,
     pub index: u8,
 }
 
-// What `search` answers.
-#[derive(Clone, Copy)]
-pub enum Found {
-    Pitch(SearchedPitch),
-    Refused(Refusal),
-}
-
 // The searcher: the lag that it sent last, the subframe that it expects, and the start of its last window, 0 when fresh.
-#[derive(Clone, Copy)]
+#[derive(Clone, Copy, Debug, PartialEq, Eq)]
 pub struct Search {
     pub previous: PitchLag,
     pub next: Subframe,
     pub start: u16,
 }
 
-#[derive(Clone, Copy)]
-pub struct SearchStep {
-    pub found: Found,
-    pub searcher: Search,
-}
-
 impl Search {
     pub fn fresh() -> Self
         ensures { result ≡ fresh_search }
     {
-        let previous = pitch::fresh_lag();
         Search {
-            previous,
+            previous: pitch::fresh_lag(),
             next: Subframe::One,
             start: 0,
         }
@@ -59,6 +45,7 @@ impl Search {
     }
 
     // The excitation: 154 words of the past, the subframe's 40 after them. First and second: the open-loop lags of the two half frames.
+    #[tactic(auto, unfolding(crate::specs::Searches::Pitch_fr))]
     pub fn search(
         self,
         excitation: &[i16],
@@ -67,42 +54,40 @@ impl Search {
         first: u16,
         second: u16,
         subframe: u8,
-    ) -> SearchStep
-        ensures { (told result.found ≡ (Pitch_fr self excitation.now target.now impulse_q12.now first second subframe).answer)
-            × (result.searcher ≡ (Pitch_fr self excitation.now target.now impulse_q12.now first second subframe).after) }
+    ) -> Step<SearchedPitch, Self>
+        ensures { told_step result ≡ Pitch_fr self excitation.now target.now impulse_q12.now first second subframe }
     {
-        if excitation.len() != EXCITATION_SAMPLES {
-            return self.refused(Refusal::Length(excitation.len()));
+        match self.checked(excitation, target, impulse_q12, first, second, subframe) {
+            Ok(()) => self.accepted(excitation, target, impulse_q12, first, second),
+            Err(refusal) => Step {
+                answer: Err(refusal),
+                after: self,
+            },
         }
-        if target.len() != SUBFRAME_SAMPLES {
-            return self.refused(Refusal::Length(target.len()));
+    }
+
+    // Numbers 1 to 4, in checking order.
+    fn checked(
+        self,
+        excitation: &[i16],
+        target: &[i16],
+        impulse_q12: &[i16],
+        first: u16,
+        second: u16,
+        subframe: u8,
+    ) -> Result<(), Refusal>
+        ensures { told result ≡ checked (search_checks self excitation.now target.now impulse_q12.now first second subframe) refused (values tt) }
+    {
+        refusal::of_length::<EXCITATION_SAMPLES>(excitation)?;
+        refusal::of_length::<SUBFRAME_SAMPLES>(target)?;
+        refusal::of_length::<SUBFRAME_SAMPLES>(impulse_q12)?;
+        let named = Subframe::try_from(subframe)?;
+        OpenLoopLag::try_new(first)?;
+        OpenLoopLag::try_new(second)?;
+        if named != self.next {
+            return Err(Refusal::Order(u8::from(self.next)));
         }
-        if impulse_q12.len() != SUBFRAME_SAMPLES {
-            return self.refused(Refusal::Length(impulse_q12.len()));
-        }
-        if subframe < 1 {
-            return self.refused(Refusal::Subframe(subframe));
-        }
-        if 4 < subframe {
-            return self.refused(Refusal::Subframe(subframe));
-        }
-        let OpenLoop::Lag(one) = OpenLoopLag::try_new(first) else {
-            return self.refused(Refusal::OpenLoopLag(first));
-        };
-        let OpenLoop::Lag(two) = OpenLoopLag::try_new(second) else {
-            return self.refused(Refusal::OpenLoopLag(second));
-        };
-        let next = self.next;
-        if subframe != next.number() {
-            return self.refused(Refusal::Order(next.number()));
-        }
-        self.accepted(
-            excitation,
-            target,
-            impulse_q12,
-            one.samples(),
-            two.samples(),
-        )
+        Ok(())
     }
 
     // The Rust answers the lag that the index decodes to: it is the chosen one.
@@ -113,42 +98,24 @@ impl Search {
         impulse: &[i16],
         first: u16,
         second: u16,
-    ) -> SearchStep
-        ensures { (told result.found ≡ (accepted self excitation.now target.now impulse.now first second).answer)
-            × (result.searcher ≡ (accepted self excitation.now target.now impulse.now first second).after) }
+    ) -> Step<SearchedPitch, Self>
+        ensures { told_step result ≡ accepted self excitation.now target.now impulse.now first second }
     {
         let due = self.next;
         let previous = self.previous.samples;
         let start = pitch_window::window_start(due, previous, first, second);
-        let lag = pitch_window::chosen_lag(
+        let chosen = pitch_window::chosen_lag(
             due, previous, first, second, excitation, target, impulse,
         );
-        let index = lag.index(due, start) as u8;
-        self.sent(PitchLag::decoded(due, index, previous), index, start)
-    }
-
-    fn sent(self, lag: PitchLag, index: u8, start: u16) -> SearchStep
-        ensures { (told result.found ≡ values (record { lag = lag; index = index })) × (result.searcher ≡ record { previous = lag; next = following self.next; start = start }) }
-    {
-        let due = self.next;
-        let next = due.next();
-        let searcher = Search {
-            previous: lag,
-            next,
-            start,
-        };
-        SearchStep {
-            found: Found::Pitch(SearchedPitch { lag, index }),
-            searcher,
-        }
-    }
-
-    fn refused(self, refusal: Refusal) -> SearchStep
-        ensures { (told result.found ≡ turned_down refusal) × (result.searcher ≡ self) }
-    {
-        SearchStep {
-            found: Found::Refused(refusal),
-            searcher: self,
+        let index = chosen.index(due, start) as u8;
+        let lag = PitchLag::decoded(due, index, previous);
+        Step {
+            answer: Ok(SearchedPitch { lag, index }),
+            after: Search {
+                previous: lag,
+                next: due.next(),
+                start,
+            },
         }
     }
 }

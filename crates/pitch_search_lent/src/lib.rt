@@ -2,9 +2,11 @@
 #![tactic(auto)]
 
 ghost use Rattle.std.specs.Prelude.{◌≡◌};
-ghost use Rattle.pitch_search.specs.Searches.{told, Pitch_fr};
+ghost use Rattle.refusal.specs.Refused.{told};
+ghost use Rattle.pitch_search.specs.Searches.{Pitch_fr};
 
-use pitch_search::{Found, Search};
+use pitch_search::{Search, SearchedPitch};
+use refusal::Refusal;
 
 // The searcher is lent by its caller and updated there.
 pub fn search_lent<'s, 'a>(
@@ -15,11 +17,11 @@ pub fn search_lent<'s, 'a>(
     first: u16,
     second: u16,
     subframe: u8,
-) -> Found
+) -> Result<SearchedPitch, Refusal>
     ensures { (told result ≡ (Pitch_fr searcher.old excitation.now target.now impulse_q12.now first second subframe).answer)
         × (searcher.new ≡ (Pitch_fr searcher.old excitation.now target.now impulse_q12.now first second subframe).after) }
 {
     let step = (*searcher).search(excitation, target, impulse_q12, first, second, subframe);
-    *searcher = step.searcher;
-    step.found
+    *searcher = step.after;
+    step.answer
 }

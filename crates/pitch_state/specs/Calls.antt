@@ -1,20 +1,13 @@
 -- Calls on a state in numbers, from 01, 'What is turned down, in checking order'.
 use Rattle.std.specs.Prelude.{cond, List, [], ◌∷◌, ℕ, ℤ}
-use Rattle.refusal.specs.Refused.{Told, values, accepts, turned_down}
+use Rattle.refusal.specs.Refused.{accepts}
 use Rattle.refusal.specs.Checks.{Check, Outcome, unless_refused, length_is, known_subframe}
 use Rattle.pitch.specs.declared.PitchLag.{PitchLag}
 use Rattle.lag_reader.specs.Readers.{read}
 use Rattle.pitch_search.specs.declared.SearchedPitch.{SearchedPitch}
 use Rattle.pitch_search.specs.Searches.{Pitch_fr}
 use Rattle.pitch_state.specs.declared.PitchState.{PitchState}
-use Rattle.pitch_state.specs.declared.Known.{Known}
-use Rattle.pitch_state.specs.declared.Known.TheVariants.{All, Refused}
 use Rattle.pitch_state.specs.States.{searcher_numbers, reader_numbers, searcher_of, reader_of}
-
--- an answer as 01 gives it
-abbrev pub told_known : Known → Told (Unit {0})
-told_known All = values tt
-told_known (Refused r) = turned_down r
 
 -- number 2: the subframe number of a call, then the one that its state expects
 abbrev pub known_subframes : ℕ → ℕ → List Check

@@ -1,7 +1,7 @@
 // A search's window and the choice in it, TS 26.073 Pitch_fr at 7.4 kbit/s, from pitch/search.rs.
 #![tactic(auto)]
 
-ghost use Rattle.std.specs.Prelude.{◌≡◌, ◌+◌, ◌≤◌};
+ghost use Rattle.std.specs.Prelude.{◌≡◌};
 ghost use Rattle.pitch.specs.Windows.{handset};
 ghost use Rattle.pitch_window.specs.Windows.{start_of, span_of, pitch_in};
 
@@ -19,9 +19,8 @@ pub fn window_start(subframe: Subframe, previous: u16, first: u16, second: u16) 
 {
     match subframe {
         Subframe::One => pitch::absolute_start(first),
-        Subframe::Two => pitch::relative_start(previous),
         Subframe::Three => pitch::absolute_start(second),
-        Subframe::Four => pitch::relative_start(previous),
+        Subframe::Two | Subframe::Four => pitch::relative_start(previous),
     }
 }
 
@@ -38,27 +37,14 @@ pub fn chosen_lag(
     ensures { result ≡ pitch_in subframe (start_of handset subframe previous first second) excitation.now target.now impulse.now }
 {
     let start = window_start(subframe, previous, first, second);
-    pitch_in(subframe, start, excitation, target, impulse)
-}
-
-fn pitch_in(
-    subframe: Subframe,
-    start: u16,
-    excitation: &[i16],
-    target: &[i16],
-    impulse: &[i16],
-) -> PitchLag
-    requires { (20 ≤ start) × (start + span_of subframe ≤ 143) }
-    ensures { result ≡ pitch_in subframe start excitation.now target.now impulse.now }
-{
     let span = span(subframe);
-    let first = start as usize;
+    let low = start as usize;
     let correlation = pitch_correlation::normalized_correlation(
         excitation,
         target,
         impulse,
-        first - INTERPOLATION_SAMPLES,
-        first + span as usize + INTERPOLATION_SAMPLES + 1,
+        low - INTERPOLATION_SAMPLES,
+        low + span as usize + INTERPOLATION_SAMPLES + 1,
     );
     pitch_choice::choose(subframe.absolute(), &correlation, start, span)
 }

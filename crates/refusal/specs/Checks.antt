@@ -1,7 +1,8 @@
 -- 01, 'What is turned down, in checking order': an entry's checks are a list, and the first that fails gives the refusal.
 use Rattle.std.specs.Prelude.{Bool, cond, ◌&&◌, List, [], ◌∷◌, ℕ, leb, eqb, ℤ, pos, negsuc, length}
 use Rattle.std.specs.Int.Signed.{le_z}
-use Rattle.refusal.specs.Refused.{Told, refused}
+use Rattle.refusal.specs.declared.Step.{Step}
+use Rattle.refusal.specs.Refused.{Told, refused, told}
 
 -- one check: whether it passes, and the number and detail of its refusal
 pub record Check : Type 0 where
@@ -18,6 +19,10 @@ checked (c ∷ cs) refuse accepted = cond c.passes (checked cs refuse accepted) 
 pub record Outcome (A S : Type 0) : Type 0 where
   pub answer : Told A
   pub after : S
+
+-- so of the struct that holds both
+abbrev pub told_step : {A S : Type 0} → Step A S → Outcome A S
+told_step s = record { answer = told s.answer; after = s.after }
 
 -- a refusal leaves the state as it was
 abbrev pub unless_refused : {A S : Type 0} → List Check → S → Outcome A S → Outcome A S

@@ -1,5 +1,5 @@
 -- 01, 'What is turned down', and the numbers of 02: the number and the detail of each case. Every contract that speaks of a refusal speaks through these.
-use Rattle.std.specs.Prelude.{Bool, true, false, ℕ, suc, ℤ, pos, negsuc}
+use Rattle.std.specs.Prelude.{Bool, true, false, ℕ, suc, ℤ, pos, negsuc, Result, Ok, Err}
 use Rattle.refusal.specs.declared.Refusal.{Refusal}
 use Rattle.refusal.specs.declared.Refusal.TheVariants.{Length, Subframe, LimitChoice, OpenLoopLag, Order, RelativeIndex, PulseLag, Exponent, Positions, Signs, Kind, FeedEnd, Fraction}
 use Rattle.refusal.specs.declared.Detail.{Detail}
@@ -54,6 +54,11 @@ accepts (refused n d) = false
 -- a refusal, told so; 01: 'What is turned down'
 abbrev pub turned_down : {A : Type 0} → Refusal → Told A
 turned_down r = refused (number r) (detail r)
+
+-- a `Result`, told so
+abbrev pub told : {A : Type 0} → Result A Refusal → Told A
+told (Ok a) = values a
+told (Err r) = turned_down r
 
 -- the same answer with its values put another way
 abbrev pub put : {A B : Type 0} → (A → B) → Told A → Told B

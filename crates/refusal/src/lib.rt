@@ -1,10 +1,13 @@
 // 01, 'What is turned down', and the numbers of 02: one case for each thing that can be wrong, with its detail.
 #![tactic(auto)]
 
-ghost use Rattle.std.specs.Prelude.{◌≡◌, pos};
+ghost use Rattle.std.specs.Prelude.{◌≡◌, pos, length, IfErr, IfOk};
 ghost use Rattle.refusal.specs.Refused.{number, detail, sign_magnitude};
 
-#[derive(Clone, Copy)]
+use std::error::Error;
+use std::fmt;
+
+#[derive(Clone, Copy, Debug, PartialEq, Eq)]
 pub enum Refusal {
     // 1: the length of a lent list
     Length(usize),
@@ -33,10 +36,17 @@ pub enum Refusal {
 }
 
 // A detail is a length, as large as a list can be, or a number that may be negative.
-#[derive(Clone, Copy)]
+#[derive(Clone, Copy, Debug, PartialEq, Eq)]
 pub struct Detail {
     pub negative: bool,
     pub magnitude: u64,
+}
+
+// What an entry with a state answers, and the state that it keeps for the next call.
+#[derive(Clone, Copy, Debug, PartialEq, Eq)]
+pub struct Step<A, S> {
+    pub answer: Result<A, Refusal>,
+    pub after: S,
 }
 
 impl Refusal {
@@ -81,6 +91,33 @@ impl Refusal {
     }
 }
 
+// The number and the detail, as the program prints them.
+impl fmt::Display for Refusal {
+    fn fmt<W: fmt::Write>(&self, f: &mut fmt::Formatter<W>) -> fmt::Result {
+        let number = self.number();
+        let detail = self.detail();
+        write!(f, "{number} {detail}")
+    }
+}
+
+impl Error for Refusal {}
+
+impl fmt::Display for Detail {
+    fn fmt<W: fmt::Write>(&self, f: &mut fmt::Formatter<W>) -> fmt::Result {
+        let sign = if self.negative { "-" } else { "" };
+        let magnitude = self.magnitude;
+        write!(f, "{sign}{magnitude}")
+    }
+}
+
+// Number 1: a lent list as the array of N words that its stage takes.
+pub fn of_length<const N: usize>(list: &[i16]) -> Result<&[i16; N], Refusal>
+    ensures ok { IfOk result (λ words. (length list.now ≡ N) × (words.now ≡ list.now)) }
+    ensures err { IfErr result (λ refusal. (refusal ≡ Refusal.Length (length list.now)) × (length list.now ≡ N → ⊥)) }
+{
+    list.as_array().ok_or(Refusal::Length(list.len()))
+}
+
 fn counted(n: u64) -> Detail
     ensures { result ≡ sign_magnitude (pos n) }
 {
@@ -95,6 +132,6 @@ fn signed(v: i16) -> Detail
 {
     Detail {
         negative: v < 0,
-        magnitude: fixed::unsigned_abs(v as i32) as u64,
+        magnitude: v.unsigned_abs() as u64,
     }
 }

@@ -1,92 +1,43 @@
 // The pitch gain and the gain row: the numbers of target, adaptive and innovation words, exponent, fraction, limit choice, and these words.
 use crate::records;
-use gain::{Quantized, QuantizedGain};
-use gain_pitch::{FoundGain, PitchGain};
+use gain::QuantizedGain;
+use gain_pitch::PitchGain;
 use std::io::{self, Read, Write};
 
-pub(crate) fn step<R: Read, W: Write>(input: &mut R, output: &mut W) -> io::Result<bool> {
-    let mut head = [0u8; 8];
-    if !records::filled(input, &mut head) {
-        return Ok(false);
+pub(crate) fn step<R: Read, W: Write>(input: &mut R, output: &mut W) -> io::Result<Option<()>> {
+    let Some(head) = records::bytes::<R, 8>(input) else {
+        return Ok(None);
+    };
+    let [targets, adaptives, innovations, a, b, c, d, limit] = head;
+    let exponent = i16::from_be_bytes([a, b]);
+    let fraction = u16::from_be_bytes([c, d]);
+    let first = usize::from(targets);
+    let second = first + usize::from(adaptives);
+    let all = second + usize::from(innovations);
+    let Some(words) = records::words(input, all) else {
+        return Ok(None);
+    };
+    if first <= second && second <= all && all <= words.len() {
+        let target = &words[..first];
+        let adaptive = &words[first..second];
+        print_pitch_gain(output, target, adaptive)?;
+        print_quantized(
+            output,
+            target,
+            adaptive,
+            &words[second..all],
+            exponent,
+            fraction,
+            limit,
+        )?;
     }
-    replayed(
-        input,
-        output,
-        head[0],
-        head[1],
-        head[2],
-        fixed::word(head[3], head[4]),
-        records::unsigned(head[5], head[6]),
-        head[7],
-    )
-}
-
-fn replayed<R: Read, W: Write>(
-    input: &mut R,
-    output: &mut W,
-    target_words: u8,
-    adaptive_words: u8,
-    innovation_words: u8,
-    exponent: i16,
-    fraction: u16,
-    limit: u8,
-) -> io::Result<bool> {
-    let targets = target_words as usize;
-    let adaptives = adaptive_words as usize;
-    let innovations = innovation_words as usize;
-    let list = records::read(input, targets + adaptives + innovations);
-    if !list.whole {
-        return Ok(false);
-    }
-    print_answers(
-        output,
-        &list.words,
-        targets,
-        adaptives,
-        innovations,
-        exponent,
-        fraction,
-        limit,
-    )?;
-    Ok(true)
-}
-
-fn print_answers<W: Write>(
-    output: &mut W,
-    words: &[i16],
-    targets: usize,
-    adaptives: usize,
-    innovations: usize,
-    exponent: i16,
-    fraction: u16,
-    limit: u8,
-) -> io::Result<()> {
-    if words.len() < targets {
-        return Ok(());
-    }
-    if words.len() - targets < adaptives {
-        return Ok(());
-    }
-    let before = targets + adaptives;
-    if words.len() - before < innovations {
-        return Ok(());
-    }
-    print_pitch_gain(output, &words[0..targets], &words[targets..before])?;
-    print_quantized(
-        output,
-        &words[0..targets],
-        &words[targets..before],
-        &words[before..before + innovations],
-        exponent,
-        fraction,
-        limit,
-    )
+    Ok(Some(()))
 }
 
 fn print_pitch_gain<W: Write>(output: &mut W, target: &[i16], adaptive: &[i16]) -> io::Result<()> {
     match gain_pitch::pitch_gain(target, adaptive) {
-        FoundGain::Gain(found) => print_gain(output, found),
-        FoundGain::Refused(refusal) => records::print_refused(output, refusal),
+        Ok(found) => print_gain(output, found),
+        Err(refusal) => write!(output, "refused {refusal}"),
     }?;
     output.write_all(b"\n")
 }
@@ -101,8 +52,8 @@ fn print_quantized<W: Write>(
     limit: u8,
 ) -> io::Result<()> {
     match gain::quantize(target, adaptive, innovation, exponent, fraction, limit) {
-        Quantized::Row(quantized) => print_row(output, quantized),
-        Quantized::Refused(refusal) => records::print_refused(output, refusal),
+        Ok(quantized) => print_row(output, quantized),
+        Err(refusal) => write!(output, "refused {refusal}"),
     }?;
     output.write_all(b"\n")
 }
@@ -116,15 +67,15 @@ fn print_gain<W: Write>(output: &mut W, found: PitchGain) -> io::Result<()> {
         found.xy,
         found.xy_exponent,
     ];
-    records::print_words(output, &numbers)?;
-    print_counts(output, &[found.energy_clips, found.target_clips])
+    records::print(output, &numbers)?;
+    records::print(output, &[found.energy_clips, found.target_clips])
 }
 
 fn print_row<W: Write>(output: &mut W, quantized: QuantizedGain) -> io::Result<()> {
     output.write_all(b"gain")?;
-    records::print_natural(output, quantized.index as u64)?;
+    records::print(output, &[quantized.index])?;
     let row = quantized.row;
-    records::print_words(output, &[row.pitch_q14, row.correction_q12])?;
+    records::print(output, &[row.pitch_q14, row.correction_q12])?;
     let counts = [
         quantized.energy_clips,
         quantized.target_clips,
@@ -132,12 +83,5 @@ fn print_row<W: Write>(output: &mut W, quantized: QuantizedGain) -> io::Result<(
         quantized.target_innovation_clips,
         quantized.adaptive_innovation_clips,
     ];
-    print_counts(output, &counts)
-}
-
-fn print_counts<W: Write>(output: &mut W, counts: &[u8]) -> io::Result<()> {
-    for &count in counts {
-        records::print_natural(output, count as u64)?;
-    }
-    Ok(())
+    records::print(output, &counts)
 }

@@ -19,20 +19,19 @@ fn replay(rt: &HostRuntime) -> io::Result<()> {
     let mut output = BufWriter::new(rt.alloc(), rt.stdout())?;
     output.write_all(b"mr74 replay\n")?;
     for _ in 0..u64::MAX {
-        if !step(&mut input, &mut output)? {
+        if step(&mut input, &mut output)?.is_none() {
             break;
         }
     }
     output.flush()
 }
 
-// Whether a record may follow. A record: a byte for its kind, and what the kind's file reads. High bytes first.
-fn step<R: Read, W: Write>(input: &mut R, output: &mut W) -> io::Result<bool> {
-    let mut kind = [0u8; 1];
-    if !records::filled(input, &mut kind) {
-        return Ok(false);
-    }
-    match kind[0] {
+// None where the input ends. A record: a byte for its kind, and what the kind's file reads. High bytes first.
+fn step<R: Read, W: Write>(input: &mut R, output: &mut W) -> io::Result<Option<()>> {
+    let Some(kind) = records::byte(input) else {
+        return Ok(None);
+    };
+    match kind {
         0 => operators::step(input, output),
         1 => pulses::step(input, output),
         _ => gain_rows::step(input, output),

@@ -1,127 +1,100 @@
 // Pulses. A byte, 0 for a reading, of two words; else a search: the numbers of its target and impulse words, lag, gain, and these words.
 use crate::records;
-use codebook::{Places, PulseReading};
+use codebook::Places;
 use codebook_code::PulseWords;
-use codebook_search::Pulses;
 use codebook_sharpening::SharpeningGain;
 use std::io::{self, Read, Write};
 
 const READING: u8 = 0;
 
-pub(crate) fn step<R: Read, W: Write>(input: &mut R, output: &mut W) -> io::Result<bool> {
-    let mut kind = [0u8; 1];
-    if !records::filled(input, &mut kind) {
-        return Ok(false);
-    }
-    if kind[0] == READING {
+pub(crate) fn step<R: Read, W: Write>(input: &mut R, output: &mut W) -> io::Result<Option<()>> {
+    let Some(kind) = records::byte(input) else {
+        return Ok(None);
+    };
+    if kind == READING {
         return reading(input, output);
     }
     search(input, output)
 }
 
-fn reading<R: Read, W: Write>(input: &mut R, output: &mut W) -> io::Result<bool> {
-    let mut bytes = [0u8; 4];
-    if !records::filled(input, &mut bytes) {
-        return Ok(false);
-    }
+fn reading<R: Read, W: Write>(input: &mut R, output: &mut W) -> io::Result<Option<()>> {
+    let Some(words) = records::bytes::<R, 4>(input) else {
+        return Ok(None);
+    };
+    let [a, b, c, d] = words;
     let mut samples = [0i16; 40];
-    let read = codebook::read(
-        records::unsigned(bytes[0], bytes[1]),
-        records::unsigned(bytes[2], bytes[3]),
+    match codebook::read(
+        u16::from_be_bytes([a, b]),
+        u16::from_be_bytes([c, d]),
         &mut samples,
-    );
-    match read {
-        PulseReading::Places(places) => {
+    ) {
+        Ok(places) => {
             print_places(output, places)?;
-            records::print_words(output, &samples)
+            records::print(output, &samples)
         }
-        PulseReading::Refused(refusal) => records::print_refused(output, refusal),
+        Err(refusal) => write!(output, "refused {refusal}"),
     }?;
     output.write_all(b"\n")?;
-    Ok(true)
+    Ok(Some(()))
 }
 
-fn search<R: Read, W: Write>(input: &mut R, output: &mut W) -> io::Result<bool> {
-    let mut head = [0u8; 6];
-    if !records::filled(input, &mut head) {
-        return Ok(false);
+fn search<R: Read, W: Write>(input: &mut R, output: &mut W) -> io::Result<Option<()>> {
+    let Some(head) = records::bytes::<R, 6>(input) else {
+        return Ok(None);
+    };
+    let [targets, impulses, a, b, c, d] = head;
+    let lag = u16::from_be_bytes([a, b]);
+    let gain = SharpeningGain(i16::from_be_bytes([c, d]));
+    let first = usize::from(targets);
+    let all = first + usize::from(impulses);
+    let Some(words) = records::words(input, all) else {
+        return Ok(None);
+    };
+    if first <= all && all <= words.len() {
+        print_search(output, &words[..first], &words[first..all], lag, gain)?;
     }
-    searched(
-        input,
-        output,
-        head[0],
-        head[1],
-        records::unsigned(head[2], head[3]),
-        fixed::word(head[4], head[5]),
-    )
-}
-
-fn searched<R: Read, W: Write>(
-    input: &mut R,
-    output: &mut W,
-    target_words: u8,
-    impulse_words: u8,
-    lag: u16,
-    gain: i16,
-) -> io::Result<bool> {
-    let targets = target_words as usize;
-    let impulses = impulse_words as usize;
-    let list = records::read(input, targets + impulses);
-    if !list.whole {
-        return Ok(false);
-    }
-    print_search(output, &list.words, targets, impulses, lag, gain)?;
-    Ok(true)
+    Ok(Some(()))
 }
 
 fn print_search<W: Write>(
     output: &mut W,
-    words: &[i16],
-    targets: usize,
-    impulses: usize,
+    target: &[i16],
+    impulse: &[i16],
     lag: u16,
-    gain: i16,
+    gain: SharpeningGain,
 ) -> io::Result<()> {
-    if words.len() < targets {
-        return Ok(());
-    }
-    if words.len() - targets < impulses {
-        return Ok(());
-    }
     let mut innovation = [0i16; 40];
     let mut filtered = [0i16; 40];
-    let mut impulse = [0i16; 40];
-    let answer = codebook_search::search(
-        &words[0..targets],
-        &words[targets..targets + impulses],
+    let mut sharpened = [0i16; 40];
+    match codebook_search::search(
+        target,
+        impulse,
         lag,
-        SharpeningGain(gain),
+        gain,
         &mut innovation,
         &mut filtered,
-        &mut impulse,
-    );
-    match answer {
-        Pulses::Words(found) => {
+        &mut sharpened,
+    ) {
+        Ok(found) => {
             print_pulses(output, found)?;
-            records::print_words(output, &innovation)?;
-            records::print_words(output, &filtered)?;
-            records::print_words(output, &impulse)
+            records::print(output, &innovation)?;
+            records::print(output, &filtered)?;
+            records::print(output, &sharpened)
         }
-        Pulses::Refused(refusal) => records::print_refused(output, refusal),
+        Err(refusal) => write!(output, "refused {refusal}"),
     }?;
     output.write_all(b"\n")
 }
 
 fn print_places<W: Write>(output: &mut W, places: Places) -> io::Result<()> {
     output.write_all(b"read")?;
-    records::print_natural(output, places.first as u64)?;
-    records::print_natural(output, places.second as u64)?;
-    records::print_natural(output, places.third as u64)?;
-    records::print_natural(output, places.last as u64)
+    records::print(
+        output,
+        &[places.first, places.second, places.third, places.last],
+    )
 }
 
 fn print_pulses<W: Write>(output: &mut W, words: PulseWords) -> io::Result<()> {
     output.write_all(b"pulses")?;
-    records::print_natural(output, words.positions as u64)?;
-    records::print_natural(output, words.signs as u64)
+    records::print(output, &[words.positions, words.signs])
 }

@@ -1,5 +1,6 @@
 -- 01, 'Feed and program': one step on a record of a feed.
 use Rattle.std.specs.Prelude.{List, ℕ, zero, suc, ℤ}
+use Rattle.refusal.specs.declared.Step.{Step as Answered}
 use Rattle.refusal.specs.Refused.{Told, values, refused}
 use Rattle.refusal.specs.Checks.{Outcome}
 use Rattle.lag_reader.specs.declared.Reader.{Reader}
@@ -9,9 +10,10 @@ use Rattle.pitch_search.specs.Searches.{fresh_search}
 use Rattle.open_loop.specs.declared.Detector.{Detector}
 use Rattle.open_loop.specs.Detectors.{fresh_detector}
 use Rattle.feed.specs.Records.{Standing, nothing, whole, header, body}
+use Rattle.selection_answers.specs.declared.Answer.{Answer}
 use Rattle.selection_answers.specs.Lines.{Line, none, reset_line, told_answer}
 use Rattle.selection_records.specs.Records.{half_frame, pitch, pulse, gain, filtering, lag_reading}
-use Rattle.selection.specs.declared.LentStep.{LentStep}
+use Rattle.selection.specs.declared.ClosedLoop.{ClosedLoop}
 
 -- detector, searcher and reader
 pub record Selection : Type 0 where
@@ -30,8 +32,8 @@ abbrev pub selection_of : List ℤ → Search → Reader → Selection
 selection_of history searcher reader = record { detector = record { history_q0 = history }; searcher = searcher; reader = reader }
 
 -- the struct so told, with the two lent lists after it
-abbrev pub told_lent : LentStep → List ℤ → List ℤ → Step
-told_lent r history ws = record { answer = told_answer r.answer ws; after = selection_of history r.searcher r.reader; words = ws }
+abbrev pub told_lent : Answered Answer ClosedLoop → List ℤ → List ℤ → Step
+told_lent r history ws = record { answer = told_answer r.answer ws; after = selection_of history r.after.searcher r.after.reader; words = ws }
 
 -- an answer, with what stays
 abbrev pub said : Selection → List ℤ → Told Line → Step

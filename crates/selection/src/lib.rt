@@ -1,123 +1,109 @@
 // One step on a feed record, from 01, 'Feed and program': searcher and reader by value, the detector's old words and those of `filter` lent.
 #![tactic(auto)]
 
-ghost use Rattle.std.specs.Prelude.{List, ◌≡◌, ◌≤◌, ℤ};
+ghost use Rattle.std.specs.Prelude.{◌≡◌};
+ghost use Rattle.feed.specs.Records.{kind_number};
 ghost use Rattle.selection.specs.Steps.{selection_of, told_lent, of_kind, step_lent};
 
-use feed::Header;
+use feed::Kind;
 use lag_reader::Reader;
 use pitch_search::Search;
+use refusal::Step;
 use selection_answers::Answer;
 
-#[derive(Clone, Copy)]
-pub struct LentStep {
-    pub answer: Answer,
+// The two ends of the closed loop.
+#[derive(Clone, Copy, Debug, PartialEq, Eq)]
+pub struct ClosedLoop {
     pub searcher: Search,
     pub reader: Reader,
 }
 
 // A half frame and a reset write the detector's old words, a filtering record the words beside the answer; a refusal writes neither.
+#[tactic(auto, unfolding(crate::specs::Steps::step_lent))]
 pub fn step_lent(
-    searcher: Search,
-    reader: Reader,
+    ends: ClosedLoop,
     history_q0: &mut [i16; 143],
     words: &mut [i16; 160],
     feed: &[u8],
     at: usize,
-) -> LentStep
-    ensures { told_lent result history_q0.new words.new ≡ step_lent (selection_of history_q0.old searcher reader) words.old feed.now at }
+) -> Step<Answer, ClosedLoop>
+    ensures { told_lent result history_q0.new words.new ≡ step_lent (selection_of history_q0.old ends.searcher ends.reader) words.old feed.now at }
 {
     match feed::header_at(feed, at) {
-        Header::End => LentStep {
-            answer: Answer::End,
-            searcher,
-            reader,
-        },
-        Header::Record { kind, next: _ } => taken(
-            searcher,
-            reader,
+        Ok(Some(record)) => taken(
+            ends,
             history_q0,
             words,
-            kind,
+            record.kind,
             feed::body_at(feed, at),
         ),
-        Header::Refused(refusal) => LentStep {
-            answer: Answer::Refused(refusal),
-            searcher,
-            reader,
+        Ok(None) => Step {
+            answer: Ok(Answer::End),
+            after: ends,
+        },
+        Err(refusal) => Step {
+            answer: Err(refusal),
+            after: ends,
         },
     }
 }
 
 // By the kind: a reset, a half frame and a filtering record write what is lent.
+#[tactic(auto, unfolding(crate::specs::Steps::of_kind, crate::specs::Steps::fresh_selection, open_loop::specs::Detectors::fresh_detector))]
 fn taken(
-    searcher: Search,
-    reader: Reader,
+    ends: ClosedLoop,
     history_q0: &mut [i16; 143],
     words: &mut [i16; 160],
-    kind: u8,
+    kind: Kind,
     body: &[u8],
-) -> LentStep
-    requires { kind ≤ 6 }
-    ensures { told_lent result history_q0.new words.new ≡ of_kind (selection_of history_q0.old searcher reader) words.old kind body.now }
+) -> Step<Answer, ClosedLoop>
+    ensures { told_lent result history_q0.new words.new ≡ of_kind (selection_of history_q0.old ends.searcher ends.reader) words.old (kind_number kind) body.now }
 {
     match kind {
-        0 => {
+        Kind::Reset => {
             *history_q0 = [0; 143];
-            LentStep {
-                answer: Answer::Reset,
-                searcher: Search::fresh(),
-                reader: Reader::fresh(),
+            Step {
+                answer: Ok(Answer::Reset),
+                after: ClosedLoop {
+                    searcher: Search::fresh(),
+                    reader: Reader::fresh(),
+                },
             }
         }
-        1 => LentStep {
+        Kind::HalfFrame => Step {
             answer: selection_records::half_frame_record(history_q0, body),
-            searcher,
-            reader,
+            after: ends,
         },
-        5 => LentStep {
-            answer: selection_records::filtering_record(words, body),
-            searcher,
-            reader,
-        },
-        _ => answered(searcher, reader, kind, body),
-    }
-}
-
-// The kinds that write nothing.
-fn answered(searcher: Search, reader: Reader, kind: u8, body: &[u8]) -> LentStep
-    requires { (2 ≤ kind) × (kind ≤ 6) × (kind ≡ 5 → ⊥) }
-    ensures { (history ws : List ℤ) → told_lent result history ws ≡ of_kind (selection_of history searcher reader) ws kind body.now }
-{
-    match kind {
-        2 => {
-            let step = selection_records::pitch_record(searcher, body);
-            let answer = step.answer;
-            let after = step.searcher;
-            LentStep {
-                answer,
-                searcher: after,
-                reader,
+        Kind::Pitch => {
+            let step = selection_records::pitch_record(ends.searcher, body);
+            Step {
+                answer: step.answer,
+                after: ClosedLoop {
+                    searcher: step.after,
+                    reader: ends.reader,
+                },
             }
         }
-        3 => LentStep {
+        Kind::Pulses => Step {
             answer: selection_records::pulse_record(body),
-            searcher,
-            reader,
+            after: ends,
         },
-        4 => LentStep {
+        Kind::Gain => Step {
             answer: selection_records::gain_record(body),
-            searcher,
-            reader,
+            after: ends,
         },
-        _ => {
-            let step = selection_records::lag_record(reader, body);
-            let answer = step.answer;
-            let after = step.reader;
-            LentStep {
-                answer,
-                searcher,
-                reader: after,
+        Kind::Filtering => Step {
+            answer: selection_records::filtering_record(words, body),
+            after: ends,
+        },
+        Kind::LagReading => {
+            let step = selection_records::lag_record(ends.reader, body);
+            Step {
+                answer: step.answer,
+                after: ClosedLoop {
+                    searcher: ends.searcher,
+                    reader: step.after,
+                },
             }
         }
     }

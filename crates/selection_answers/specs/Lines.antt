@@ -1,13 +1,14 @@
 -- 01, 'Feed and program': what a record answers, as the program prints it.
-use Rattle.std.specs.Prelude.{List, [], ◌∷◌, ℕ, ◌+◌, ◌-◌, ◌*◌, ◌/◌, ℤ, pos}
-use Rattle.refusal.specs.Refused.{Told, values, turned_down}
+use Rattle.std.specs.Prelude.{Result, List, [], ◌∷◌, ℕ, ◌+◌, ◌-◌, ◌*◌, ◌/◌, ℤ, pos}
+use Rattle.refusal.specs.Refused.{Told, put, told}
+use Rattle.refusal.specs.declared.Refusal.{Refusal}
 use Rattle.pitch.specs.declared.PitchLag.{PitchLag}
 use Rattle.pitch.specs.Kinds.{thirds, from_zero}
 use Rattle.pitch_search.specs.declared.SearchedPitch.{SearchedPitch}
 use Rattle.codebook_code.specs.declared.PulseWords.{PulseWords}
 use Rattle.gain.specs.declared.QuantizedGain.{QuantizedGain}
 use Rattle.selection_answers.specs.declared.Answer.{Answer}
-use Rattle.selection_answers.specs.declared.Answer.TheVariants.{End, Reset, Open, Pitch, Pulses, Gain, Filter, Lag, Refused}
+use Rattle.selection_answers.specs.declared.Answer.TheVariants.{End, Reset, Open, Pitch, Pulses, Gain, Filter, Lag}
 
 -- 'per record its number, a name and fields': the kind stands for the name. Where the feed ends there is no record and no line
 pub data Line : Type 0 where
@@ -50,14 +51,17 @@ filter_line words = line 5 words
 abbrev pub lag_line : PitchLag → Line
 lag_line l = line 6 (lag_fields l (hertz l))
 
--- an answer as 01 gives it, with the words that stand beside it
-abbrev pub told_answer : Answer → List ℤ → Told Line
-told_answer End words = values none
-told_answer Reset words = values reset_line
-told_answer (Open lag) words = values (open_line lag)
-told_answer (Pitch index l h) words = values (line 2 (pos index ∷ lag_fields l h))
-told_answer (Pulses w) words = values (pulse_line w)
-told_answer (Gain q) words = values (gain_line q)
-told_answer Filter words = values (filter_line words)
-told_answer (Lag l h) words = values (line 6 (lag_fields l h))
-told_answer (Refused r) words = turned_down r
+-- an answer, with the words that stand beside it
+abbrev pub line_of : Answer → List ℤ → Line
+line_of End words = none
+line_of Reset words = reset_line
+line_of (Open lag) words = open_line lag
+line_of (Pitch index l h) words = line 2 (pos index ∷ lag_fields l h)
+line_of (Pulses w) words = pulse_line w
+line_of (Gain q) words = gain_line q
+line_of Filter words = filter_line words
+line_of (Lag l h) words = line 6 (lag_fields l h)
+
+-- or a refusal, as 01 gives them
+abbrev pub told_answer : Result Answer Refusal → List ℤ → Told Line
+told_answer r words = put (λ a. line_of a words) (told r)

@@ -2,27 +2,21 @@
 #![tactic(auto)]
 
 ghost use Rattle.std.specs.Prelude.{List, [], ◌≡◌, ℤ};
-ghost use Rattle.refusal.specs.Refused.{put, turned_down};
-ghost use Rattle.pitch.specs.Kinds.{told_lag};
-ghost use Rattle.lag_reader.specs.Readers.{told_reading};
-ghost use Rattle.pitch_search.specs.Searches.{told};
-ghost use Rattle.codebook_search.specs.Pulses.{told_words};
-ghost use Rattle.gain.specs.Rows.{told_row};
+ghost use Rattle.refusal.specs.Refused.{values, turned_down};
 ghost use Rattle.selection_answers.specs.Fields.{accepted_line, fields_of};
-ghost use Rattle.selection_answers.specs.Lines.{hertz, open_line, pitch_line, pulse_line, gain_line, lag_line, told_answer};
+ghost use Rattle.selection_answers.specs.Lines.{hertz, open_line, pitch_line, pulse_line, gain_line, lag_line, line_of, told_answer};
 
 use codebook_code::PulseWords;
-use codebook_search::Pulses;
-use gain::{Quantized, QuantizedGain};
-use lag_reader::Reading;
-use pitch::{OpenLoop, PitchLag};
-use pitch_search::Found;
+use gain::QuantizedGain;
+use pitch::{OpenLoopLag, PitchLag};
+use pitch_search::SearchedPitch;
 use refusal::Refusal;
 
 // Thirds of a sample in a second.
 const THIRDS_PER_SECOND: u32 = 24000;
 
-#[derive(Clone, Copy)]
+// What a record answers where nothing is refused.
+#[derive(Clone, Copy, Debug, PartialEq, Eq)]
 pub enum Answer {
     // No record: the feed ends there, or a body has not its kind's length.
     End,
@@ -41,63 +35,55 @@ pub enum Answer {
         lag: PitchLag,
         hertz: u16,
     },
-    Refused(Refusal),
 }
 
 // ---- The answer of each stage. The words beside an answer count for `Filter` alone: here they are any list.
 
-pub fn open_answer(lag: OpenLoop) -> Answer
-    ensures { (ws : List ℤ) → told_answer result ws ≡ put open_line (told_lag lag) }
-{
-    match lag {
-        OpenLoop::Lag(found) => Answer::Open(found.samples()),
-        OpenLoop::Refused(refusal) => Answer::Refused(refusal),
+impl From<OpenLoopLag> for Answer {
+    ghost from_gives = { λ lag result. (ws : List ℤ) → line_of result ws ≡ open_line lag.0 };
+
+    fn from(lag: OpenLoopLag) -> Self {
+        Answer::Open(lag.samples())
     }
 }
 
-pub fn pitch_answer(found: Found) -> Answer
-    ensures { (ws : List ℤ) → told_answer result ws ≡ put pitch_line (told found) }
-{
-    match found {
-        Found::Pitch(searched) => {
-            let lag = searched.lag;
-            Answer::Pitch {
-                index: searched.index,
-                lag,
-                hertz: hertz(lag),
-            }
+impl From<SearchedPitch> for Answer {
+    ghost from_gives = { λ pitch result. (ws : List ℤ) → line_of result ws ≡ pitch_line pitch };
+
+    fn from(pitch: SearchedPitch) -> Self {
+        Answer::Pitch {
+            index: pitch.index,
+            lag: pitch.lag,
+            hertz: hertz(pitch.lag),
         }
-        Found::Refused(refusal) => Answer::Refused(refusal),
     }
 }
 
-pub fn pulses_answer(found: Pulses) -> Answer
-    ensures { (ws : List ℤ) → told_answer result ws ≡ put pulse_line (told_words found) }
-{
-    match found {
-        Pulses::Words(words) => Answer::Pulses(words),
-        Pulses::Refused(refusal) => Answer::Refused(refusal),
+impl From<PulseWords> for Answer {
+    ghost from_gives = { λ words result. (ws : List ℤ) → line_of result ws ≡ pulse_line words };
+
+    fn from(words: PulseWords) -> Self {
+        Answer::Pulses(words)
     }
 }
 
-pub fn gain_answer(quantized: Quantized) -> Answer
-    ensures { (ws : List ℤ) → told_answer result ws ≡ put gain_line (told_row quantized) }
-{
-    match quantized {
-        Quantized::Row(row) => Answer::Gain(row),
-        Quantized::Refused(refusal) => Answer::Refused(refusal),
+impl From<QuantizedGain> for Answer {
+    ghost from_gives = { λ row result. (ws : List ℤ) → line_of result ws ≡ gain_line row };
+
+    fn from(row: QuantizedGain) -> Self {
+        Answer::Gain(row)
     }
 }
 
-pub fn reading_answer(reading: Reading) -> Answer
-    ensures { (ws : List ℤ) → told_answer result ws ≡ put lag_line (told_reading reading) }
-{
-    match reading {
-        Reading::Lag(lag) => Answer::Lag {
+// Of the lag reader.
+impl From<PitchLag> for Answer {
+    ghost from_gives = { λ lag result. (ws : List ℤ) → line_of result ws ≡ lag_line lag };
+
+    fn from(lag: PitchLag) -> Self {
+        Answer::Lag {
             lag,
             hertz: hertz(lag),
-        },
-        Reading::Refused(refusal) => Answer::Refused(refusal),
+        }
     }
 }
 
@@ -105,8 +91,7 @@ pub fn reading_answer(reading: Reading) -> Answer
 fn hertz(lag: PitchLag) -> u16
     ensures { result ≡ hertz lag }
 {
-    let fraction = lag.fraction;
-    let above = 3 * lag.samples as u32 + fraction.from_zero();
+    let above = 3 * lag.samples as u32 + lag.fraction.from_zero();
     if above <= 1 {
         return 0;
     }
@@ -115,7 +100,7 @@ fn hertz(lag: PitchLag) -> u16
 
 // ---- An answer in numbers: `number` is 0, or a refusal's with its detail.
 
-#[derive(Clone, Copy)]
+#[derive(Clone, Copy, Debug, PartialEq, Eq)]
 pub struct Fields {
     pub number: u8,
     pub negative: bool,
@@ -128,34 +113,39 @@ pub struct Fields {
     pub fourth: i32,
 }
 
-pub fn fields_of(answer: Answer) -> Fields
+pub fn fields_of(answer: Result<Answer, Refusal>) -> Fields
     ensures { result ≡ fields_of (told_answer answer []) }
+{
+    match answer {
+        Ok(accepted) => accepted_fields(accepted),
+        Err(refusal) => refused_line(refusal),
+    }
+}
+
+fn accepted_fields(answer: Answer) -> Fields
+    ensures { result ≡ fields_of (values (line_of answer [])) }
 {
     match answer {
         Answer::End => accepted_line(7, 0, 0, 0, 0),
         Answer::Reset => accepted_line(0, 0, 0, 0, 0),
         Answer::Open(lag) => accepted_line(1, lag as i32, 0, 0, 0),
         Answer::Pitch { index, lag, hertz } => {
-            let fraction = lag.fraction;
-            let thirds = fraction.thirds() as i32;
+            let thirds = i16::from(lag.fraction) as i32;
             accepted_line(2, index as i32, lag.samples as i32, thirds, hertz as i32)
         }
         Answer::Pulses(words) => {
             accepted_line(3, words.positions as i32, words.signs as i32, 0, 0)
         }
         Answer::Gain(chosen) => {
-            let row = chosen.row;
-            let pitch = row.pitch_q14 as i32;
-            let correction = row.correction_q12 as i32;
+            let pitch = chosen.row.pitch_q14 as i32;
+            let correction = chosen.row.correction_q12 as i32;
             accepted_line(4, chosen.index as i32, pitch, correction, 0)
         }
         Answer::Filter => accepted_line(5, 0, 0, 0, 0),
         Answer::Lag { lag, hertz } => {
-            let fraction = lag.fraction;
-            let thirds = fraction.thirds() as i32;
+            let thirds = i16::from(lag.fraction) as i32;
             accepted_line(6, lag.samples as i32, thirds, hertz as i32, 0)
         }
-        Answer::Refused(refusal) => refused_line(refusal),
     }
 }
 

@@ -10,44 +10,38 @@ ghost use Rattle.selection_answers.specs.Lines.{told_answer};
 ghost use Rattle.selection_records.specs.Records.{told_with, in_order, of_filters, zeros, half_frame, pitch, pulse, gain, filtering, lag_reading};
 
 use codebook_sharpening::SharpeningGain;
-use encoder_filtering::Filtering;
 use lag_reader::Reader;
 use open_loop::Detector;
 use pitch_search::Search;
+use refusal::{Refusal, Step};
 use selection_answers::Answer;
 
 // The detector's old words are lent and updated.
-pub fn half_frame_record(history_q0: &mut [i16; 143], body: &[u8]) -> Answer
+#[tactic(auto, unfolding(crate::specs::Records::half_frame))]
+pub fn half_frame_record(history_q0: &mut [i16; 143], body: &[u8]) -> Result<Answer, Refusal>
     ensures { (ws : List ℤ) → told_with result ws (record { history_q0 = history_q0.exit.now }) ≡ half_frame (record { history_q0 = history_q0.entry.now }) body.now }
 {
     if body.len() != 160 {
-        return Answer::End;
+        return Ok(Answer::End);
     }
     let mut samples = [0i16; 80];
     feed::read_words(body, 0, &mut samples);
     let old = *history_q0;
     let detector = Detector { history_q0: old };
     let step = detector.push(&samples);
-    let lag = step.lag;
-    let after = step.detector;
-    let kept = after.history_q0;
+    let kept = step.after.history_q0;
     *history_q0 = kept;
-    selection_answers::open_answer(lag)
+    step.answer.map(Answer::from)
 }
 
-#[derive(Clone, Copy)]
-pub struct PitchRecord {
-    pub answer: Answer,
-    pub searcher: Search,
-}
-
-pub fn pitch_record(searcher: Search, body: &[u8]) -> PitchRecord
-    ensures { (ws : List ℤ) → told_with result.answer ws result.searcher ≡ pitch searcher body.now }
+#[tactic(auto, unfolding(crate::specs::Records::pitch))]
+pub fn pitch_record(searcher: Search, body: &[u8]) -> Step<Answer, Search>
+    ensures { (ws : List ℤ) → told_with result.answer ws result.after ≡ pitch searcher body.now }
 {
     if body.len() != 551 {
-        return PitchRecord {
-            answer: Answer::End,
-            searcher,
+        return Step {
+            answer: Ok(Answer::End),
+            after: searcher,
         };
     }
     let mut excitation = [0i16; 194];
@@ -62,19 +56,18 @@ pub fn pitch_record(searcher: Search, body: &[u8]) -> PitchRecord
         body[550] as u16,
         body[0],
     );
-    let found = step.found;
-    let after = step.searcher;
-    PitchRecord {
-        answer: selection_answers::pitch_answer(found),
-        searcher: after,
+    Step {
+        answer: step.answer.map(Answer::from),
+        after: step.after,
     }
 }
 
-pub fn pulse_record(body: &[u8]) -> Answer
+#[tactic(auto, unfolding(crate::specs::Records::pulse))]
+pub fn pulse_record(body: &[u8]) -> Result<Answer, Refusal>
     ensures { (ws : List ℤ) → told_answer result ws ≡ pulse body.now }
 {
     if body.len() != 163 {
-        return Answer::End;
+        return Ok(Answer::End);
     }
     let target = forty(body, 0);
     let impulse = forty(body, 80);
@@ -89,15 +82,16 @@ pub fn pulse_record(body: &[u8]) -> Answer
         &mut innovation,
         &mut filtered,
         &mut sharpened,
-    );
-    selection_answers::pulses_answer(found)
+    )?;
+    Ok(Answer::from(found))
 }
 
-pub fn gain_record(body: &[u8]) -> Answer
+#[tactic(auto, unfolding(crate::specs::Records::gain))]
+pub fn gain_record(body: &[u8]) -> Result<Answer, Refusal>
     ensures { (ws : List ℤ) → told_answer result ws ≡ gain body.now }
 {
     if body.len() != 245 {
-        return Answer::End;
+        return Ok(Answer::End);
     }
     let target = forty(body, 0);
     let adaptive = forty(body, 80);
@@ -107,16 +101,10 @@ pub fn gain_record(body: &[u8]) -> Answer
         &adaptive,
         &filtered,
         fixed::word(body[240], body[241]),
-        unsigned(body[242], body[243]),
+        u16::from_be_bytes([body[242], body[243]]),
         body[244],
-    );
-    selection_answers::gain_answer(quantized)
-}
-
-fn unsigned(high: u8, low: u8) -> u16
-    ensures { result ≡ high * 256 + low }
-{
-    high as u16 * 256 + low as u16
+    )?;
+    Ok(Answer::from(quantized))
 }
 
 // The words of a subframe, from a place of the body on.
@@ -130,11 +118,12 @@ fn forty(body: &[u8], from: usize) -> [i16; 40]
 }
 
 // The lent words are written where the answer is `Filter`.
-pub fn filtering_record(words: &mut [i16; 160], body: &[u8]) -> Answer
+#[tactic(auto, unfolding(crate::specs::Records::filtering))]
+pub fn filtering_record(words: &mut [i16; 160], body: &[u8]) -> Result<Answer, Refusal>
     ensures { told_with result words.new words.new ≡ filtering words.old body.now }
 {
     if body.len() != 184 {
-        return Answer::End;
+        return Ok(Answer::End);
     }
     let mut speech = [0i16; 50];
     let mut coefficients = [0i16; 11];
@@ -163,14 +152,14 @@ fn prepared(
     quantized: &[i16],
     errors: &[i16],
     weighting: &[i16],
-) -> Answer
+) -> Result<Answer, Refusal>
     ensures { told_with result words.new words.new ≡ of_filters words.old (prepare speech.now coefficients.now quantized.now errors.now weighting.now (lists zeros zeros zeros zeros)) }
 {
     let mut residual = [0i16; 40];
     let mut impulse = [0i16; 40];
     let mut target = [0i16; 40];
     let mut error = [0i16; 40];
-    let answer = encoder_filtering::prepare(
+    encoder_filtering::prepare(
         speech,
         coefficients,
         quantized,
@@ -180,15 +169,9 @@ fn prepared(
         &mut impulse,
         &mut target,
         &mut error,
-    );
-    match answer {
-        Filtering::Written => {
-            let filtered = joined(&residual, &impulse, &target, &error);
-            *words = filtered;
-            Answer::Filter
-        }
-        Filtering::Refused(refusal) => Answer::Refused(refusal),
-    }
+    )?;
+    *words = joined(&residual, &impulse, &target, &error);
+    Ok(Answer::Filter)
 }
 
 fn joined(
@@ -200,11 +183,7 @@ fn joined(
     requires { (length residual.now ≡ 40) × (length impulse.now ≡ 40) × (length target.now ≡ 40) × (length error.now ≡ 40) }
     ensures { result ≡ in_order (lists residual.now impulse.now target.now error.now) }
 {
-    let mut words = [0i16; 160];
-    for i in 0..160 {
-        words[i] = joined_at(residual, impulse, target, error, i);
-    }
-    words
+    std::array::from_fn(|i| joined_at(residual, impulse, target, error, i))
 }
 
 fn joined_at(
@@ -229,26 +208,19 @@ fn joined_at(
     error[i - 120]
 }
 
-#[derive(Clone, Copy)]
-pub struct LagRecord {
-    pub answer: Answer,
-    pub reader: Reader,
-}
-
-pub fn lag_record(reader: Reader, body: &[u8]) -> LagRecord
-    ensures { (ws : List ℤ) → told_with result.answer ws result.reader ≡ lag_reading reader body.now }
+#[tactic(auto, unfolding(crate::specs::Records::lag_reading))]
+pub fn lag_record(reader: Reader, body: &[u8]) -> Step<Answer, Reader>
+    ensures { (ws : List ℤ) → told_with result.answer ws result.after ≡ lag_reading reader body.now }
 {
     if body.len() != 2 {
-        return LagRecord {
-            answer: Answer::End,
-            reader,
+        return Step {
+            answer: Ok(Answer::End),
+            after: reader,
         };
     }
     let step = reader.read(body[0], body[1]);
-    let reading = step.reading;
-    let after = step.reader;
-    LagRecord {
-        answer: selection_answers::reading_answer(reading),
-        reader: after,
+    Step {
+        answer: step.answer.map(Answer::from),
+        after: step.after,
     }
 }

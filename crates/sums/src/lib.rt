@@ -26,7 +26,7 @@ pub fn squares40(x: &[i16; 40]) -> u64
 {
     let mut sum: u64 = 0;
     for i in 0..20 {
-        sum = sum + (square(x[i]) + square(x[20 + i])) as u64;
+        sum += (square(x[i]) + square(x[20 + i])) as u64;
     }
     sum
 }
@@ -71,7 +71,7 @@ pub fn energy_and_sum40(x: &[i16; 40], y: &[i16; 40]) -> EnergyAndSum
     let mut energy: u64 = 0;
     let mut sum: i32 = 0;
     for i in 0..40 {
-        energy = energy + square(x[i]) as u64;
+        energy += square(x[i]) as u64;
         sum = fixed::mac(sum, x[i], y[i]);
     }
     EnergyAndSum {
@@ -109,8 +109,8 @@ pub fn peak(list: &[i16; 40]) -> u16
     ensures { result ≡ peak (at list.now) 40 }
 {
     let mut most: u16 = 0;
-    for i in 0..40 {
-        most = greater(most, magnitude(list[i]));
+    for word in list {
+        most = most.max(word.unsigned_abs());
     }
     most
 }
@@ -120,25 +120,10 @@ fn reach(list: &[i16; 40]) -> u32
     ensures { result ≡ reach (at list.now) 40 }
 {
     let mut sum: u32 = 0;
-    for i in 0..40 {
-        sum = sum + magnitude(list[i]) as u32;
+    for word in list {
+        sum += word.unsigned_abs() as u32;
     }
     sum
-}
-
-pub fn magnitude(v: i16) -> u16
-    ensures { result ≡ nat_abs v }
-{
-    fixed::unsigned_abs(v as i32) as u16
-}
-
-pub fn greater(a: u16, b: u16) -> u16
-    ensures { result ≡ max a b }
-{
-    if a < b {
-        return b;
-    }
-    a
 }
 
 // Each sum takes 40 products, and those past its place have a factor 0: a fixed count is quicker than one that grows.
@@ -172,7 +157,7 @@ fn plain_sum(input: &[i16; 40], reversed: &[i16; 80], from: usize) -> i32
 {
     let mut sum: i32 = 0;
     for k in 0..40 {
-        sum = sum + fixed::exact(input[k], reversed[from + k]);
+        sum += fixed::exact(input[k], reversed[from + k]);
     }
     2 * sum
 }
@@ -182,58 +167,41 @@ fn clipped_sums(input: &[i16; 40], impulse: &[i16; 40], sums: &mut [i32; 40])
     ensures { sums.new ≡ tabulate (convolution input.now impulse.now) 40 }
 {
     *sums = [0i32; 40];
-    let mut i = 0;
-    while i < 40 {
-        let mut n = i;
-        while n < 40 {
+    for i in 0..40 {
+        for n in i..40 {
             sums[n] = fixed::mac(sums[n], input[i], impulse[n - i]);
-            n += 1;
         }
-        i += 1;
     }
 }
 
 // ---- Words.
 
-// The words of a list of 40; 40 zeros for a list of another length.
-pub fn forty(list: &[i16]) -> [i16; 40]
-    ensures { result ≡ copied list.now (replicate 40 (pos 0)) }
+// The words of a list of N; N zeros for a list of another length.
+pub fn words_of<const N: usize>(list: &[i16]) -> [i16; N]
+    ensures { result ≡ copied list.now (replicate N (pos 0)) }
 {
-    let mut words = [0i16; 40];
-    copy(list, &mut words);
-    words
+    <[i16; N]>::try_from(list).unwrap_or([0; N])
 }
 
 // From the last word to the first.
 pub fn reversed40(list: &[i16; 40]) -> [i16; 40]
     ensures { result ≡ tabulate (λ j. at list.now (39 - j)) 40 }
 {
-    let mut words = [0i16; 40];
-    for j in 0..40 {
-        words[j] = list[39 - j];
-    }
-    words
+    std::array::from_fn(|j| list[39 - j])
 }
 
 // 40 words, each shifted by a signed count.
 pub fn shifted40(x: &[i16; 40], count: i16) -> [i16; 40]
     ensures { result ≡ shifted x.now count 40 }
 {
-    let mut words = [0i16; 40];
-    for i in 0..40 {
-        words[i] = fixed::shift_word(x[i], count);
-    }
-    words
+    std::array::from_fn(|i| fixed::shift(x[i], count))
 }
 
 // Into a lent list of the same length; one of another length stays as it was.
 pub fn copy(words: &[i16], list: &mut [i16])
     ensures { list.new ≡ copied words.now list.old }
 {
-    if words.len() != list.len() {
-        return;
-    }
-    for i in 0..words.len() {
-        list[i] = words[i];
+    if words.len() == list.len() {
+        list.copy_from_slice(words);
     }
 }

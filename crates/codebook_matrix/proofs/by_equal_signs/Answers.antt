@@ -10,23 +10,6 @@ half v f = fits_abs w16 (up v) (omega (arith, up_small v f.sfits))
 raised : (v : ℤ) → SFits w16 v → SFits w16 (up v +ℤ pos 8191)
 raised v f = fits_abs w16 (up v +ℤ pos 8191) (omega (arith, up_small v f.sfits, abs_add (up v) (pos 8191)))
 
-pub overflow_sub-result : goal.overflow_sub-result
-overflow_sub-result c =
-    let f = c.ranges.v in
-    rw (to_z-of_z f, to_z-of_z (shift_fits 2 f), up_is c.args.v) (half c.args.v f)
-
-pub overflow_add-result : goal.overflow_add-result
-overflow_add-result c =
-    let f = c.ranges.v in
-    rw (to_z-of_z f, to_z-of_z (shift_fits 2 f), up_is c.args.v, to_z-of_z (half c.args.v f)) (raised c.args.v f)
-
-pub overflow_sub-result-2 : goal.overflow_sub-result-2
-overflow_sub-result-2 c =
-    let v = c.args.v in
-    let f = c.ranges.v in
-    rw (to_z-of_z f, to_z-of_z (shift_fits 2 f), up_is v, to_z-of_z (half v f), to_z-of_z (raised v f), to_z-of_z (shift_fits 8192 (raised v f)), ← (same_is v f.sfits))
-    (ok w16 _ (mult_fits v (pos 32766)))
-
 pub returns : goal.returns
 returns c =
     let v = c.args.v in

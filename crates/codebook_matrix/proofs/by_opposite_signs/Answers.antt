@@ -4,12 +4,6 @@ use Rattle.fixed.proofs.Bounds.{ok, shift_fits}
 use Rattle.codebook_matrix.proofs.SignProducts.{other_is, mult_fits}
 use Rattle.codebook_matrix.proofs.by_opposite_signs.Goals as goal
 
-pub overflow_sub-result : goal.overflow_sub-result
-overflow_sub-result c =
-    let v = c.args.v in
-    let f = c.ranges.v in
-    rw (to_z-of_z f, to_z-of_z (shift_fits 32768 f), ← (other_is v f.sfits)) (ok w16 _ (mult_fits v (negsuc 32766)))
-
 pub returns : goal.returns
 returns c =
     let v = c.args.v in

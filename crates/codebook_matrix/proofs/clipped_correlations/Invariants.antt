@@ -1,4 +1,4 @@
-use Rattle.std.proofs.Common.{◌≡◌, ◌+◌, ◌-◌, ◌≤◌, ◌<◌, pos, length}
+use Rattle.std.proofs.Common.{◌≡◌, ◌+◌, ◌-◌, pos, length}
 use Rattle.fixed.specs.Lists.{between}
 use Rattle.fixed.proofs.Lists.{Filled}
 use Rattle.sums.proofs.Rows.{taken}
@@ -10,23 +10,14 @@ use Rattle.codebook_matrix.proofs.clipped_correlations.Given as goal
 -- k terms of every sum that has so many, and the last k rows and columns of the table
 abbrev pub invariant-loop-k : goal.invariant-loop-k
 invariant-loop-k l =
-    (l.k ≤ 40) × (length l.sums ≡ 40) × Filled (taken (term l.normalized) terms l.k) (pos 0) 40 l.sums × filling.Rows (entry l.normalized l.signs) (mirror l.normalized l.signs) l.table l.k
-
-abbrev pub decreases-loop-k : goal.decreases-loop-k
-decreases-loop-k l = 40 - l.k
+    (length l.sums ≡ 40) × Filled (taken (term l.normalized) terms l.k) (pos 0) 40 l.sums × filling.Rows (entry l.normalized l.signs) (mirror l.normalized l.signs) l.table l.k
 
 -- term k of the first d sums
 abbrev pub invariant-loop-d : goal.invariant-loop-d
 invariant-loop-d l =
-    (l.k < 40) × (l.d ≤ 40 - l.k) × (length l.sums ≡ 40) × Filled (between (taken (term l.normalized) terms (l.k + 1)) (taken (term l.normalized) terms l.k) 0 l.d) (pos 0) 40 l.sums
-
-abbrev pub decreases-loop-d : goal.decreases-loop-d
-decreases-loop-d l = 40 - l.d
+    (length l.sums ≡ 40) × Filled (between (taken (term l.normalized) terms (l.k + 1)) (taken (term l.normalized) terms l.k) 0 l.d) (pos 0) 40 l.sums
 
 -- the first i places of row and column 39 - k
 abbrev pub invariant-loop-i : goal.invariant-loop-i
 invariant-loop-i l =
-    (l.k < 40) × (l.i ≤ 40 - l.k) × filling.Filled (entry l.normalized l.signs) (mirror l.normalized l.signs) l.table (39 - l.k) l.i
-
-abbrev pub decreases-loop-i : goal.decreases-loop-i
-decreases-loop-i l = 40 - l.i
+    filling.Filled (entry l.normalized l.signs) (mirror l.normalized l.signs) l.table (39 - l.k) l.i

@@ -12,4 +12,4 @@ unfolding energy L_add
 returns c =
     let hs = c.args.impulse.now in
     let e : min (min (2 * squared (at hs) 40) 2147483647 + 2) 2147483647 ≡ min (2 + 2 * squared (at hs) 40) 2147483647 = omega arith in
-    rw (got w32 c.add32.type_inv c.add32.ensures, got w32 c.energy40.type_inv c.energy40.ensures, energy_is hs 40, energy_from 2 hs 40 (omega arith)) (ap pos e)
+    rw (got w32 c.add.type_inv c.add.ensures, got w32 c.energy40.type_inv c.energy40.ensures, energy_is hs 40, energy_from 2 hs 40 (omega arith)) (ap pos e)

@@ -13,16 +13,15 @@ use Rattle.codebook_matrix.proofs.plain_correlations.Goals.{After-exact}
 use Rattle.codebook_matrix.proofs.plain_correlations.Goals as goal
 
 -- term k at place k + i
-term : (c : After-exact) →
+term : (c : After-exact) → to_z w32 (of_z w32 (at c.loop-i.sums (c.loop-k.k + c.loop-i.i))) ≡ at c.loop-i.sums (c.loop-k.k + c.loop-i.i) →
     to_z w32 (of_z w32 (at c.loop-i.sums (c.loop-k.k + c.loop-i.i))) +ℤ to_z w32 (of_z w32 c.exact.result)
     ≡ sum_at c.args.normalized.now (c.loop-k.k + 1) (c.loop-k.k + c.loop-i.i)
-term c =
+term c y =
     let ns = c.args.normalized.now in
     let k = c.loop-k.k in
     let i = c.loop-i.i in
     let sums = c.loop-i.sums in
     let r = c.reversed40-reversed.result in
-    let y : to_z w32 (of_z w32 (at sums (k + i))) ≡ at sums (k + i) = search rules in
     let held : at sums (k + i) ≡ sum_at ns k (k + i) = c.loop-i.invariant.1 (k + i) (omega arith) ∙ at_end (sum_at ns (k + 1)) (sum_at ns k) k (k + i) in
     let w : to_z w16 (of_z w16 (at ns k)) ≡ at ns k = search rules in
     let q : to_z w16 (of_z w16 (at r i)) ≡ at r i = search rules in
@@ -37,11 +36,11 @@ summed ns k i sums h e f = term_done ns k sums h (rw e at f)
 pub loop-k-init : goal.loop-k-init
 loop-k-init c =
     let ns = c.args.normalized.now in
-    (refl, λ x l. zeros 80 x l ∙ sym (none_yet ns x), filling.nothing_filled (entry ns c.args.signs.now) (mirror ns c.args.signs.now))
+    (refl, λ x l. zeros 80 x l ∙ sym (none_yet ns x), filling.nothing_filled (entry ns c.args.signs.words.now) (mirror ns c.args.signs.words.now))
 
 pub overflow_add-sums-in-loop-i : goal.overflow_add-sums-in-loop-i
 overflow_add-sums-in-loop-i c =
-    rw (term c) (fits_abs w32 _ (omega (arith, sum_small c.args.normalized.now (c.loop-k.k + 1) (c.loop-k.k + c.loop-i.i) (omega arith) (omega arith), c.requires.0)))
+    rw (term (goal.at.overflow_add-sums-in-loop-i c).After-exact (search rules)) (fits_abs w32 _ (omega (arith, sum_small c.args.normalized.now (c.loop-k.k + 1) (c.loop-k.k + c.loop-i.i) (omega arith) (omega arith), c.requires)))
 
 pub loop-i-preserved : goal.loop-i-preserved
 loop-i-preserved c =
@@ -51,20 +50,20 @@ loop-i-preserved c =
     let v : ℤ = to_z w32 (of_z w32 (to_z w32 (of_z w32 (at c.loop-i.sums (k + i))) +ℤ to_z w32 (of_z w32 c.exact.result))) in
     let q : k + (i + 1) ≡ k + i + 1 = omega arith in (
       length-set c.loop-i.sums (k + i) v ∙ c.loop-i.invariant.0,
-      rw q (placed_more (sum_at ns (k + 1)) (sum_at ns k) k (k + i) 80 c.loop-i.sums v (omega arith) (omega (arith, c.loop-i.invariant.0)) (to_z-of_z (overflow_add-sums-in-loop-i c) ∙ term c) c.loop-i.invariant.1),
+      rw q (placed_more (sum_at ns (k + 1)) (sum_at ns k) k (k + i) 80 c.loop-i.sums v (omega arith) (omega (arith, c.loop-i.invariant.0)) (to_z-of_z (overflow_add-sums-in-loop-i c) ∙ term (goal.at.loop-i-preserved c).After-exact (search rules)) c.loop-i.invariant.1),
     )
 
 pub rounded-rounded-requires : goal.rounded-rounded-requires
 rounded-rounded-requires c =
     let k = c.loop-k.k in (
       omega arith,
-      λ i u. rw (summed c.args.normalized.now c.loop-k.k c.loop-i.i c.loop-i.sums (omega arith) (omega arith) c.loop-i.invariant.1 (k + i) (omega arith)) (omega (arith, sum_small c.args.normalized.now (k + 1) (k + i) (omega arith) (omega arith), c.requires.0)),
+      λ i u. rw (summed c.args.normalized.now c.loop-k.k c.loop-i.i c.loop-i.sums (omega arith) (omega arith) c.loop-i.invariant.1 (k + i) (omega arith)) (omega (arith, sum_small c.args.normalized.now (k + 1) (k + i) (omega arith) (omega arith), c.requires)),
     )
 
 pub loop-i-2-preserved : goal.loop-i-2-preserved
 loop-i-2-preserved c =
     let ns = c.args.normalized.now in
-    let ss = c.args.signs.now in
+    let ss = c.args.signs.words.now in
     let k = c.loop-k.k in
     let i = c.loop-i-2.i in
     let h : k < 40 = omega arith in
@@ -83,20 +82,20 @@ loop-i-2-preserved c =
     let z : d ≡ at rs (39 - k) = search rules in
     let e : v ≡ entry ns ss i (39 - k) =
     x ∙ ap (λ (xs : List ℤ). at xs i) (row_signed rs ss ws (39 - k) d (omega arith) z c.signed_row-values.ensures)
-    ∙ at_tabulate (λ i. signed ss i (39 - k) (at rs i)) (pos 0) 40 i m ∙ ap (signed ss i (39 - k)) y ∙ value_is ns ss (omega (arith, c.requires.0)) k h i o
+    ∙ at_tabulate (λ i. signed ss i (39 - k) (at rs i)) (pos 0) 40 i m ∙ ap (signed ss i (39 - k)) y ∙ value_is ns ss (omega (arith, c.requires)) k h i o
     in
-    (omega arith, filling.one_more (entry ns ss) (mirror ns ss) c.loop-i-2.table (39 - k) i v o (omega arith) e c.loop-i-2.invariant.1)
+    filling.one_more (entry ns ss) (mirror ns ss) c.loop-i-2.table (39 - k) i v o (omega arith) e c.loop-i-2.invariant
 
 pub loop-k-preserved : goal.loop-k-preserved
 loop-k-preserved c =
     let ns = c.args.normalized.now in
-    let ss = c.args.signs.now in
-    (c.loop-i.invariant.0, summed c.args.normalized.now c.loop-k.k c.loop-i.i c.loop-i.sums (omega arith) (omega arith) c.loop-i.invariant.1, filling.row_done (entry ns ss) (mirror ns ss) c.loop-i-2.table c.loop-k.k c.loop-i-2.i (omega arith) (omega arith) c.loop-i-2.invariant.1)
+    let ss = c.args.signs.words.now in
+    (c.loop-i.invariant.0, summed c.args.normalized.now c.loop-k.k c.loop-i.i c.loop-i.sums (omega arith) (omega arith) c.loop-i.invariant.1, filling.row_done (entry ns ss) (mirror ns ss) c.loop-i-2.table c.loop-k.k c.loop-i-2.i (omega arith) (omega arith) c.loop-i-2.invariant)
 
 pub returns : goal.returns
 unfolding correlations row
 returns c =
     let ns = c.args.normalized.now in
-    let ss = c.args.signs.now in
+    let ss = c.args.signs.words.now in
     let e : c.loop-k.k ≡ 40 = omega arith in
     filling.all_filled (entry ns ss) (mirror ns ss) c.loop-k.table (rw e at c.loop-k.invariant.2)

@@ -1,4 +1,4 @@
-use Rattle.std.proofs.Common.{◌≡◌, ◌+◌, ◌-◌, ◌≤◌, pos, length}
+use Rattle.std.proofs.Common.{◌≡◌, ◌+◌, ◌-◌, pos, length}
 use Rattle.fixed.specs.Lists.{between}
 use Rattle.fixed.proofs.Lists.{Filled}
 use Rattle.codebook_matrix.specs.Matrices.{entry}
@@ -10,7 +10,7 @@ use Rattle.codebook_matrix.proofs.plain_correlations.Given as goal
 -- k terms of every sum, and the last k rows and columns of the table
 abbrev pub invariant-loop-k : goal.invariant-loop-k
 invariant-loop-k l =
-    (length l.sums ≡ 80) × Filled (sum_at l.normalized l.k) (pos 0) 80 l.sums × filling.Rows (entry l.normalized l.signs) (mirror l.normalized l.signs) l.table l.k
+    (length l.sums ≡ 80) × Filled (sum_at l.normalized l.k) (pos 0) 80 l.sums × filling.Rows (entry l.normalized l.signs.words.now) (mirror l.normalized l.signs.words.now) l.table l.k
 
 -- term k of the first i sums that get one
 abbrev pub invariant-loop-i : goal.invariant-loop-i
@@ -20,7 +20,4 @@ invariant-loop-i l =
 -- the first i places of row and column 39 - k
 abbrev pub invariant-loop-i-2 : goal.invariant-loop-i-2
 invariant-loop-i-2 l =
-    (l.i ≤ 40 - l.k) × filling.Filled (entry l.normalized l.signs) (mirror l.normalized l.signs) l.table (39 - l.k) l.i
-
-abbrev pub decreases-loop-i-2 : goal.decreases-loop-i-2
-decreases-loop-i-2 l = 40 - l.i
+    filling.Filled (entry l.normalized l.signs.words.now) (mirror l.normalized l.signs.words.now) l.table (39 - l.k) l.i

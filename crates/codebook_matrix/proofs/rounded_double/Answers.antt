@@ -17,17 +17,6 @@ module _ (z : ℤ) (h : nat_abs z < 1073725440) where
   unfolding round extract_h L_add
   is_round = rw (clip_id 31 (pos 2 *ℤ z +ℤ pos 32768) whole.sfits)
 
-pub overflow_mul-result : goal.overflow_mul-result
-overflow_mul-result c = rw (to_z-of_z c.ranges.sum) (twice c.args.sum c.requires)
-
-pub overflow_add-result : goal.overflow_add-result
-overflow_add-result c = rw (to_z-of_z c.ranges.sum, to_z-of_z (twice c.args.sum c.requires)) (whole c.args.sum c.requires)
-
-pub overflow_cast-result : goal.overflow_cast-result
-overflow_cast-result c =
-    let w = whole c.args.sum c.requires in
-    rw (to_z-of_z c.ranges.sum, to_z-of_z (twice c.args.sum c.requires), to_z-of_z w, to_z-of_z (shift_fits 65536 w)) (high_fits w)
-
 pub returns : goal.returns
 returns c =
     let w = whole c.args.sum c.requires in

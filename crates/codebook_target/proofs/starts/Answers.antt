@@ -1,5 +1,5 @@
-use Rattle.std.proofs.Common.{◌≡◌, ◌/◌, ◌<◌, refl, arith, add-one}
-use Rattle.codebook_target.specs.Starts.{without, drop_one, dropped, set_sign}
+use Rattle.std.proofs.Common.{◌/◌, ◌<◌, arith, add-one}
+use Rattle.codebook_target.specs.Starts.{without, drop_one, dropped}
 use Rattle.codebook_target.proofs.Starting.{least_lt}
 use Rattle.codebook_target.proofs.starts.Goals.{After-least-place}
 use Rattle.codebook_target.proofs.starts.Goals as goal
@@ -8,10 +8,6 @@ use Rattle.codebook_target.proofs.starts.Goals as goal
 found : (c : After-least-place) → c.least-place.result < 40
 found c =
     rw c.least-place.ensures (least_lt c.loop-n.left c.loop-n.place (c.loop-n.n / 4) 8 c.loop-n.invariant.0 (omega arith) (omega arith))
-
-pub loop-n-init : goal.loop-n-init
-unfolding dropped
-loop-n-init c = (omega arith, refl, refl)
 
 pub offset_bounds-left-place : goal.offset_bounds-left-place
 offset_bounds-left-place c = omega (arith, found c)
@@ -24,9 +20,3 @@ unfolding dropped drop_one without
 loop-n-preserved c =
     let n = c.loop-n.n in
     (found c, rw (add-one n, ← c.loop-n.invariant.1, ← c.loop-n.invariant.2, c.least-place.ensures), rw (add-one n, ← c.loop-n.invariant.1, ← c.loop-n.invariant.2, c.least-place.ensures))
-
-pub returns : goal.returns
-unfolding set_sign
-returns c =
-    let e : c.loop-n.n ≡ 20 = omega arith in
-    rw e at c.loop-n.invariant.1

@@ -8,7 +8,6 @@ use mir.Syntax.{w16}
 use mir.Facts.{to_z-of_z, to_z_pos}
 use borrow.Author.Tests.{ltb-true, ltb-false}
 use Rattle.fixed.specs.Operators.{div_s}
-use Rattle.fixed.proofs.Bounds.{fits_16_32}
 use Rattle.fixed.proofs.Clips.{contradiction}
 use Rattle.compound.proofs.divide.Goals as goal
 
@@ -40,11 +39,7 @@ returns-then-b-lt1 c = below_b c.args.a c.args.b (rw (to_z-of_z c.ranges.b) at c
 
 pub returns : goal.returns
 returns c =
-    let f = fits_16_32 c.ranges.a in
-    let g = fits_16_32 c.ranges.b in
-    let over : c.unsigned_abs.result ≡ nat_abs c.args.a = let h = c.ranges.a in simp to_z-of_z at c.unsigned_abs.ensures in
-    let under : c.unsigned_abs-2.result ≡ nat_abs c.args.b = let h = c.ranges.b in simp to_z-of_z at c.unsigned_abs-2.ensures in
-    let h : c.at_most.result < 32768 = omega (arith, c.at_most.ensures) in
+    let h : c.min.result < 32768 = omega (arith, c.min.ensures) in
     to_z_pos w16 h
-    ∙ ap pos (rw (c.at_most.ensures, over, under))
+    ∙ ap pos (rw (c.min.ensures, c.unsigned_abs.ensures.value, c.unsigned_abs-2.ensures.value, to_z-of_z c.ranges.a, to_z-of_z c.ranges.b))
     ∙ within c.args.a c.args.b (rw (to_z-of_z c.ranges.a) at c.if-a-lt0.false) (rw (to_z-of_z c.ranges.b) at c.if-b-lt1.false)

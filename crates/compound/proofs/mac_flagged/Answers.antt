@@ -18,7 +18,7 @@ returns c =
     let e : c.overflowing_add-past.result.1 ≡ beyond 31 (s +ℤ L_mult a b) =
     past_end _ _ (rw (to_z-of_z c.ranges.sum, p, to_z-of_z c.ranges.a, to_z-of_z c.ranges.b) at c.overflowing_add-past.ensures.overflow) in
     rw (
-      got w32 c.add32.type_inv c.add32.ensures,
+      got w32 c.add.type_inv c.add.ensures,
       p,
       e,
       got w32 c.exact.type_inv c.exact.ensures,

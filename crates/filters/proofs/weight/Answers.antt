@@ -1,8 +1,7 @@
-use mathlib.Core.Path.{◌≡◌, refl}
+use mathlib.Core.Path.{◌≡◌}
 use Prim.Native.Nat.{◌+◌}
 use native.Mathlib.Numerals.{add-one}
-use lib.IntN.{ℤ, pos}
-use lib.ListN.{replicate}
+use lib.IntN.{ℤ}
 use mir.Syntax.{w16, w32}
 use mir.Val.{to_z, of_z}
 use Rattle.fixed.proofs.Bounds.{got}
@@ -15,10 +14,7 @@ use Rattle.filters.proofs.weight.Goals as goal
 
 pub loop-i-init : goal.loop-i-init
 unfolding weighted_at
-loop-i-init c =
-    let cs = c.args.coefficients.now in
-    let v : to_z w16 (of_z w16 (at cs 0)) ≡ at cs 0 = search rules in
-    filling_more (weighted_at cs c.args.factors.now) 11 0 (replicate 11 (pos 0)) (to_z w16 (of_z w16 (at cs 0))) (omega arith) v (omega arith, refl, λ k l. absurd (omega arith))
+loop-i-init c = search rules
 
 pub loop-i-preserved : goal.loop-i-preserved
 unfolding weighted_at

@@ -12,6 +12,6 @@ returns c =
       to_z-of_z s.ranges.sum,
       to_z-of_z s.ranges.a,
       to_z-of_z s.ranges.b,
-      got w32 c.sub32.type_inv c.sub32.ensures,
+      got w32 c.sub.type_inv c.sub.ensures,
       got w32 c.product.type_inv c.product.ensures,
     )

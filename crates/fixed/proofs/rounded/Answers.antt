@@ -10,5 +10,5 @@ returns c =
     simp (
       to_z-of_z c.ranges.v,
       got w16 c.high.type_inv c.high.ensures,
-      got w32 c.add32.type_inv c.add32.ensures,
+      got w32 c.add.type_inv c.add.ensures,
     )

@@ -1,25 +1,38 @@
-use mathlib.Core.Path.{◌≡◌, ◌∙◌}
-use lib.IntN.{nat_abs}
-use mir.Syntax.{w32}
+use Rattle.std.proofs.lemmas.Bool.{leb-true}
+use mathlib.Core.Path.{◌∙◌}
+use Prim.Native.Nat.{◌≤◌}
+use native.Mathlib.Omega.{arith}
+use mir.Syntax.{w64}
 use mir.Facts.{to_z-of_z}
-use Rattle.fixed.proofs.Bounds.{got, fits_16_32}
-use Rattle.fixed.proofs.Shifts.{shift_right_is, shift_left_is}
+use Rattle.fixed.proofs.Bounds.{of_bits, got, fits_32_64, shift_fits}
+use Rattle.fixed.proofs.Shifts.{left_at, left_fits, right_at}
 use Rattle.fixed.proofs.shift.Goals as goal
 
 pub returns-then-n-lt0 : goal.returns-then-n-lt0
-returns-then-n-lt0 c =
-    let f = c.ranges.n in
-    let g = c.ranges.v in
-    let h = fits_16_32 f in
-    let e : c.unsigned_abs-count.result ≡ nat_abs c.args.n = simp to_z-of_z at c.unsigned_abs-count.ensures in
-    got w32 c.shift_right.type_inv (simp (to_z-of_z, e) at c.shift_right.ensures)
-    ∙ shift_right_is 31 c.args.v c.args.n (simp to_z-of_z at c.if-n-lt0.true)
+returns-then-n-lt0 g c =
+    let n = c.ranges.n in
+    let o = g.met.N.Clipped.operators in
+    let v = of_bits _ c.wide.result (leb-true _ _ o.width) c.wide.ensures.bound in
+    let e = simp (to_z-of_z, fits_32_64, shift_fits) at c.clip.ensures in
+    rw (c.wide.ensures.value, c.min-places.ensures, c.unsigned_abs.ensures.value, to_z-of_z n) at e
+    ∙ right_at _ _ _ (leb-true _ _ o.width) (rw c.wide.ensures.value at c.wide.ensures.bound) (simp to_z-of_z at c.if-n-lt0.true)
+
+pub overflow_mul-wide : goal.overflow_mul-wide
+overflow_mul-wide g c =
+    let o = g.met.N.Clipped.operators in
+    let v = of_bits _ c.wide-2.result (leb-true _ _ o.width) c.wide-2.ensures.bound in
+    let w = fits_32_64 v in
+    let h : c.min-places.result ≤ 31 = rw c.min-places.ensures (omega arith) in
+    simp (to_z-of_z, got w64 c.power_of_two.type_inv c.power_of_two.ensures) (left_fits c.min-places.result v h)
 
 pub returns : goal.returns
-returns c =
-    let f = c.ranges.n in
-    let g = c.ranges.v in
-    let h = fits_16_32 f in
-    let e : c.unsigned_abs-count.result ≡ nat_abs c.args.n = simp to_z-of_z at c.unsigned_abs-count.ensures in
-    got w32 c.shift_left.type_inv (simp (to_z-of_z, e) at c.shift_left.ensures)
-    ∙ shift_left_is 31 c.args.v c.args.n (simp to_z-of_z at c.if-n-lt0.false)
+returns g c =
+    let n = c.ranges.n in
+    let o = g.met.N.Clipped.operators in
+    let v = of_bits _ c.wide-2.result (leb-true _ _ o.width) c.wide-2.ensures.bound in
+    let w = fits_32_64 v in
+    let h : c.min-places.result ≤ 31 = rw c.min-places.ensures (omega arith) in
+    let l = left_fits c.min-places.result v h in
+    let e = simp (to_z-of_z, got w64 c.power_of_two.type_inv c.power_of_two.ensures) at c.clip-2.ensures in
+    rw (c.wide-2.ensures.value, c.min-places.ensures, c.unsigned_abs.ensures.value, to_z-of_z n) at e
+    ∙ left_at _ _ _ (leb-true _ _ o.width) (rw c.wide-2.ensures.value at c.wide-2.ensures.bound) (simp to_z-of_z at c.if-n-lt0.false)

@@ -25,8 +25,8 @@ loop-i-preserved c =
     let far = c.args.far.now in
     let i = c.loop-i.i in
     let b : SFits w32 (at far i) = search rules in
-    let p : to_z w16 (of_z w16 (at c.args.pitches_q14.now i)) ≡ at c.args.pitches_q14.now i = search rules in
-    let q : at c.args.pitches_q14.now i ≡ cell 0 i = ap (λ (l : List ℤ). at l i) c.requires ∙ at_tabulate (cell 0) (pos 0) 128 i (omega arith) in
+    let p : to_z w16 (of_z w16 (at c.pitches-pitches.result i)) ≡ at c.pitches-pitches.result i = search rules in
+    let q : at c.pitches-pitches.result i ≡ cell 0 i = ap (λ (l : List ℤ). at l i) c.pitches-pitches.ensures ∙ at_tabulate (cell 0) (pos 0) 128 i (omega arith) in
     record {
       filling =
           filling_more (λ k. cond (within_limit (to_z w16 (of_z w16 c.args.limit_q14)) k) (at far k) (pos 2147483647)) 128 i c.loop-i.distances _ (omega arith)

@@ -7,36 +7,29 @@ use mir.Syntax.{w16, w32}
 use mir.Val.{to_z, of_z}
 use mir.Facts.{to_z-of_z}
 use borrow.Author.Rules.{rules}
-use Rattle.fixed.specs.Lists.{at}
+use Rattle.fixed.specs.Lists.{at, L_sum}
 use Rattle.fixed.proofs.Bounds.{got}
 use Rattle.fixed.proofs.Lists.{filling_more, filling_all}
 use Rattle.gain_table.specs.Rows.{cell}
 use Rattle.gain_table.proofs.Rules.{pitch_small, correction_small}
 use Rattle.gain_choice.specs.Rows.{products, distance, row_distance, distances}
-use Rattle.gain_choice.proofs.Codes.{code, column_rows, product_rows}
+use Rattle.gain_choice.proofs.Codes.{code, column_rows, product_rows, words, five_small}
 use Rattle.gain_choice.proofs.distances.Goals as goal
-
-pub fractions-codes-requires : goal.fractions-codes-requires
-fractions-codes-requires c = λ k l. let r = column_rows 1 c.args.corrections_q12.now c.requires.1 correction_small k l in rw r.0 r.1
-
-pub fractions-pitch_squares-requires : goal.fractions-pitch_squares-requires
-fractions-pitch_squares-requires c = λ k l. let r = column_rows 0 c.args.pitches_q14.now c.requires.0 pitch_small k l in rw r.0 r.1
 
 pub loop-i-init : goal.loop-i-init
 loop-i-init c =
-    let ps = c.args.pitches_q14.now in
-    let qs = c.args.corrections_q12.now in
+    let ps = c.pitches-pitches.result in
     let cs = c.fractions-codes.result in
     let g : ℤ = to_z w16 (of_z w16 c.args.gcode0) in
-    let p = column_rows 0 ps c.requires.0 pitch_small in
-    let q = column_rows 1 qs c.requires.1 correction_small in
-    let d = product_rows cs qs (replicate 128 g) (cell 1) (λ k. g) c.fractions-codes.ensures (λ k l. (q k l).0) (λ k l. get_or-replicate 128 k g (pos 0) l) in
+    let p = column_rows 0 ps c.pitches-pitches.ensures pitch_small in
+    let q = column_rows 1 c.corrections.result c.corrections.ensures correction_small in
+    let d = product_rows cs c.corrections.result (replicate 128 g) (cell 1) (λ k. g) c.fractions-codes.ensures q (λ k l. (get_or-replicate 128 k g (pos 0) l, rw (to_z-of_z c.ranges.gcode0) c.ranges.gcode0)) in
     record {
-      pitch_squares = product_rows c.fractions-pitch_squares.result ps ps (cell 0) (cell 0) c.fractions-pitch_squares.ensures (λ k l. (p k l).0) (λ k l. (p k l).0);
+      pitch_squares = product_rows c.fractions-pitch_squares.result ps ps (cell 0) (cell 0) c.fractions-pitch_squares.ensures p (words ps (cell 0) p);
       pitches = p;
-      code_squares = product_rows c.fractions-code_squares.result cs cs (code g) (code g) c.fractions-code_squares.ensures (λ k l. (d k l).0) (λ k l. (d k l).0);
+      code_squares = product_rows c.fractions-code_squares.result cs cs (code g) (code g) c.fractions-code_squares.ensures d (words cs (code g) d);
       codes = d;
-      both = product_rows c.fractions-both.result cs ps (code g) (cell 0) c.fractions-both.ensures (λ k l. (d k l).0) (λ k l. (p k l).0);
+      both = product_rows c.fractions-both.result cs ps (code g) (cell 0) c.fractions-both.ensures d (words ps (cell 0) p);
       filling = (omega arith, refl, λ k l. absurd (omega arith));
     }
 
@@ -46,29 +39,31 @@ distance-requires c =
     let h : i < 128 = omega arith in
     let v = c.loop-i.invariant in
     let a1 : to_z w16 (of_z w16 (at c.fractions-pitch_squares.result i)) ≡ at c.fractions-pitch_squares.result i = search rules in
-    let a2 : to_z w16 (of_z w16 (at c.args.pitches_q14.now i)) ≡ at c.args.pitches_q14.now i = search rules in
+    let a2 : to_z w16 (of_z w16 (at c.pitches-pitches.result i)) ≡ at c.pitches-pitches.result i = search rules in
     let a3 : to_z w16 (of_z w16 (at c.fractions-code_squares.result i)) ≡ at c.fractions-code_squares.result i = search rules in
     let a4 : to_z w16 (of_z w16 (at c.fractions-codes.result i)) ≡ at c.fractions-codes.result i = search rules in
     let a5 : to_z w16 (of_z w16 (at c.fractions-both.result i)) ≡ at c.fractions-both.result i = search rules in
-    rw (a1, a2, a3, a4, a5, (v.pitch_squares i h).0, (v.pitches i h).0, (v.code_squares i h).0, (v.codes i h).0, (v.both i h).0)
-    ((v.pitch_squares i h).1, (v.pitches i h).1, (v.code_squares i h).1, (v.codes i h).1, (v.both i h).1)
+    five_small _ _ _ _ _
+    (rw (a1, (v.pitch_squares i h).0) (v.pitch_squares i h).1)
+    (rw (a2, (v.pitches i h).0) (v.pitches i h).1)
+    (rw (a3, (v.code_squares i h).0) (v.code_squares i h).1)
+    (rw (a4, (v.codes i h).0) (v.codes i h).1)
+    (rw (a5, (v.both i h).0) (v.both i h).1)
 
 pub loop-i-preserved : goal.loop-i-preserved
-unfolding row_distance distance products
+unfolding row_distance distance products L_sum
 loop-i-preserved c =
     let i = c.loop-i.i in
     let h : i < 128 = omega arith in
     let v = c.loop-i.invariant in
     let g : ℤ = to_z w16 (of_z w16 c.args.gcode0) in
     let a1 : to_z w16 (of_z w16 (at c.fractions-pitch_squares.result i)) ≡ at c.fractions-pitch_squares.result i = search rules in
-    let a2 : to_z w16 (of_z w16 (at c.args.pitches_q14.now i)) ≡ at c.args.pitches_q14.now i = search rules in
+    let a2 : to_z w16 (of_z w16 (at c.pitches-pitches.result i)) ≡ at c.pitches-pitches.result i = search rules in
     let a3 : to_z w16 (of_z w16 (at c.fractions-code_squares.result i)) ≡ at c.fractions-code_squares.result i = search rules in
     let a4 : to_z w16 (of_z w16 (at c.fractions-codes.result i)) ≡ at c.fractions-codes.result i = search rules in
     let a5 : to_z w16 (of_z w16 (at c.fractions-both.result i)) ≡ at c.fractions-both.result i = search rules in
     let r : ℤ = to_z w32 (of_z w32 c.distance.result) in
-    let e : r ≡ row_distance c.args.weights.now g i =
-    rw (got w32 c.distance.type_inv c.distance.ensures, a1, a2, a3, a4, a5, (v.pitch_squares i h).0, (v.pitches i h).0, (v.code_squares i h).0, (v.codes i h).0, (v.both i h).0)
-    in
+    let e : r ≡ row_distance c.args.weights.now g i = rw (got w32 c.distance.type_inv c.distance.ensures, a1, a2, a3, a4, a5, (v.pitch_squares i h).0, (v.pitches i h).0, (v.code_squares i h).0, (v.codes i h).0, (v.both i h).0) in
     record {
       pitch_squares = v.pitch_squares;
       pitches = v.pitches;

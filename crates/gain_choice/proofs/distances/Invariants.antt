@@ -9,7 +9,7 @@ abbrev pub invariant-loop-i : goal.invariant-loop-i
 invariant-loop-i l =
     record {
       pitch_squares : Rows l.pitch_squares (λ k. mult (cell 0 k) (cell 0 k));
-      pitches : Rows l.pitches_q14 (cell 0);
+      pitches : Rows l.pitches (cell 0);
       code_squares : Rows l.code_squares (λ k. mult (code l.gcode0 k) (code l.gcode0 k));
       codes : Rows l.codes (code l.gcode0);
       both : Rows l.both (λ k. mult (code l.gcode0 k) (cell 0 k));

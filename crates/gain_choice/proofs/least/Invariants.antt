@@ -4,5 +4,5 @@ use Rattle.gain_choice.specs.Rows.{nearest}
 use Rattle.gain_choice.proofs.Passes.{every}
 use Rattle.gain_choice.proofs.least.Given as goal
 
-abbrev pub invariant-loop-i : goal.invariant-loop-i
-invariant-loop-i l = l.least ≡ at l.distances (nearest every (at l.distances) (l.i - 1))
+abbrev pub invariant-loop-distance : goal.invariant-loop-distance
+invariant-loop-distance l = l.least ≡ at l.distances (nearest every (at l.distances) (l.distance-index - 1))

@@ -1,42 +1,40 @@
-use mathlib.Core.Path.{◌≡◌}
-use mathlib.Core.List.{[], ◌∷◌}
+use mathlib.Core.Path.{◌≡◌, sym, ◌∙◌}
+use native.Mathlib.Omega.{arith}
+use native.Mathlib.Numerals.{add-one}
 use borrow.Author.Rules.{rules}
 use lib.IntN.{pos}
-use mir.Syntax.{w16, w32}
+use lib.ListN.{get_or}
+use mir.Syntax.{w16}
 use mir.Val.{to_z, of_z}
+use Rattle.std.proofs.lemmas.List.{take_all}
 use Rattle.fixed.specs.Operators.{add}
 use Rattle.fixed.proofs.Bounds.{got}
-use Rattle.gain_coefficients.specs.Energies.{e_max, on_one_scale}
+use Rattle.fixed.proofs.Made.{made}
+use Rattle.gain_coefficients.specs.declared.Coefficient.{Coefficient}
+use Rattle.gain_coefficients.specs.Energies.{coefficient, e_max, levelled}
+use Rattle.gain_coefficients.proofs.Scales.{e_max_more, scaled}
 use Rattle.gain_coefficients.proofs.on_one_scale.Goals as goal
 
+-- what a place past the end reads
+abbrev none : Coefficient
+none = coefficient (pos 0) (pos 0)
+
+pub loop-coefficient-init : goal.loop-coefficient-init
+unfolding e_max
+loop-coefficient-init c = search rules
+
+pub loop-coefficient-preserved : goal.loop-coefficient-preserved
+loop-coefficient-preserved c =
+    let cs = c.args.list.now in
+    let i = c.loop-coefficient.coefficient-index in
+    let x : to_z w16 (of_z w16 (get_or cs i none).exponent) ≡ (get_or cs i none).exponent = search rules in
+    rw (got w16 c.max-greatest.type_inv c.max-greatest.ensures.value, x, c.loop-coefficient.invariant, add-one i, e_max_more _ cs i none (omega arith))
+
 pub returns : goal.returns
-unfolding on_one_scale e_max
 returns c =
-    let i = c.args in
-    let yy : to_z w16 (of_z w16 i.yy.exponent) ≡ i.yy.exponent = search rules in
-    let xy : to_z w16 (of_z w16 i.xy.exponent) ≡ i.xy.exponent = search rules in
-    let zz : to_z w16 (of_z w16 i.zz.exponent) ≡ i.zz.exponent = search rules in
-    let xz : to_z w16 (of_z w16 i.xz.exponent) ≡ i.xz.exponent = search rules in
-    let yz : to_z w16 (of_z w16 i.yz.exponent) ≡ i.yz.exponent = search rules in
-    let top : to_z w16 (of_z w16 c.add16-top.result) ≡ add (e_max i.yy.exponent (i.xy ∷ i.zz ∷ i.xz ∷ i.yz ∷ [])) (pos 1) =
-    rw (
-      got w16 c.add16-top.type_inv c.add16-top.ensures,
-      got w16 c.greater.type_inv c.greater.ensures,
-      got w16 c.greater-four.type_inv c.greater-four.ensures,
-      got w16 c.greater-three.type_inv c.greater-three.ensures,
-      got w16 c.greater-two.type_inv c.greater-two.ensures,
-      yy,
-      xy,
-      zz,
-      xz,
-      yz,
-    )
-    in
-    rw (
-      got w32 c.levelled.type_inv c.levelled.ensures,
-      got w32 c.levelled-2.type_inv c.levelled-2.ensures,
-      got w32 c.levelled-3.type_inv c.levelled-3.ensures,
-      got w32 c.levelled-4.type_inv c.levelled-4.ensures,
-      got w32 c.levelled-5.type_inv c.levelled-5.ensures,
-      top,
-    )
+    let cs = c.args.list.now in
+    let e : c.loop-coefficient.coefficient-index ≡ 5 = omega arith in
+    let g = rw (e, take_all 5 cs (omega arith)) at c.loop-coefficient.invariant in
+    made _ (pos 0) (λ k. levelled (add (e_max (get_or cs 0 none).exponent cs) (pos 1)) (get_or cs k none)) 5 _
+    (λ k r f' l h. rw (← g, ← c.add-top.ensures) (search rules)) _ c.from_fn.ensures.items
+    ∙ sym (scaled cs 4 none c.told-list)

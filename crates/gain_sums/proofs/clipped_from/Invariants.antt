@@ -1,6 +1,6 @@
-use Rattle.std.proofs.Common.{◌≡◌}
+use Rattle.std.proofs.Common.{◌≡◌, ◌+◌}
 use Rattle.gain_sums.specs.Sums.{clips as clips_of}
 use Rattle.gain_sums.proofs.clipped_from.Given as goal
 
-abbrev pub invariant-loop-i : goal.invariant-loop-i
-invariant-loop-i l = l.clips ≡ clips_of l.words l.words l.i
+abbrev pub invariant-loop-word : goal.invariant-loop-word
+invariant-loop-word l = l.clips ≡ clips_of l.words l.words (l.fn.first + l.word-index)

@@ -1,5 +1,6 @@
 use Rattle.std.proofs.Common.{◌≡◌}
-use Rattle.gain_sums.proofs.Plains.{Quiet, half as half_of}
+use Rattle.gain_sums.specs.Sums.{Quiet}
+use Rattle.gain_sums.proofs.Plains.{half as half_of}
 use Rattle.gain_sums.proofs.plain.Given as goal
 
 abbrev pub invariant-loop-i : goal.invariant-loop-i

@@ -23,10 +23,3 @@ returns-then-value-lt-GREATEST-clause-counted c =
 pub returns-then-value-lt-GREATEST-clause-flagged : goal.returns-then-value-lt-GREATEST-clause-flagged
 returns-then-value-lt-GREATEST-clause-flagged c =
     told_flagged c.args.words.now c.args.words.now 40 _ (returns-then-value-lt-GREATEST-clause-counted c)
-
-pub returns-clause-counted : goal.returns-clause-counted
-unfolding counted_sum
-returns-clause-counted c = rw (got w32 c.square_value-value.type_inv c.square_value-value.ensures, c.clipped_squares.ensures)
-
-pub returns-clause-flagged : goal.returns-clause-flagged
-returns-clause-flagged c = told_flagged c.args.words.now c.args.words.now 40 _ (returns-clause-counted c)

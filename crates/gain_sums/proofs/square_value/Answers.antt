@@ -20,4 +20,4 @@ returns c =
     let s = 2 * squared (at xs) 40 in
     let w : to_z w32 (of_z w32 e.result) ≡ pos (min s 2147483647) = got w32 e.type_inv (e.ensures ∙ energy_is xs 40) in
     let v : min (min s 2147483647 + 1) 2147483647 ≡ min (1 + s) 2147483647 = omega arith in
-    got w32 c.add32.type_inv c.add32.ensures ∙ rw (w, energy_from 1 xs 40 (omega arith), v)
+    got w32 c.add.type_inv c.add.ensures ∙ rw (w, energy_from 1 xs 40 (omega arith), v)

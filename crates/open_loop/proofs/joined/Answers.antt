@@ -1,13 +1,11 @@
-use mathlib.Core.Path.{◌≡◌}
-use Prim.Native.Nat.{◌+◌}
-use native.Mathlib.Omega.{arith}
+use mathlib.Core.Path.{refl}
+use borrow.Author.Rules.{rules}
 use lib.IntN.{pos}
-use Rattle.fixed.proofs.Lists.{filled_all}
-use Rattle.open_loop.specs.Detectors.{joined_at, joined}
+use lib.ListN.{replicate}
+use Rattle.open_loop.proofs.Lengths.{joined_by}
 use Rattle.open_loop.proofs.joined.Goals as goal
 
 pub returns : goal.returns
-unfolding joined
 returns c =
-    let e : 143 + c.loop-i-2.i ≡ 223 = omega arith in
-    filled_all (joined_at c.args.history.now c.args.samples.now) (pos 0) 223 c.loop-i-2.input c.loop-i-2.invariant.0 (rw e at c.loop-i-2.invariant.1)
+    rw (c.copy_from_slice.ensures.after, c.copy_from_slice-2.ensures.after)
+    (joined_by c.args.history.now c.args.samples.now (replicate 80 (pos 0)) (search rules) (search rules) refl)

@@ -1,8 +1,7 @@
-use mathlib.Core.Path.{◌≡◌}
-use Prim.Native.Nat.{◌*◌, ◌^◌, ◌≤◌}
+use Rattle.std.proofs.Common.{◌≡◌, ◌*◌, ◌^◌, ◌≤◌}
 use Rattle.sums.specs.Plain.{squared}
-use Rattle.open_loop_correlation.proofs.Energies.{from as words-from}
+use Rattle.fixed.specs.Lists.{at}
 use Rattle.open_loop_correlation.proofs.energy.Given as goal
 
-abbrev pub invariant-loop-i : goal.invariant-loop-i
-invariant-loop-i l = record { sum_is : l.sum ≡ squared (words-from l.words l.from) l.i; sum_below : l.sum ≤ l.i * 2 ^ 30 }
+abbrev pub invariant-loop-word : goal.invariant-loop-word
+invariant-loop-word l = (l.sum ≡ squared (at l.word-items) l.word-index) × (l.sum ≤ l.word-index * 2 ^ 30)

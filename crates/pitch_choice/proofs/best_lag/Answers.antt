@@ -1,31 +1,34 @@
-use Rattle.std.proofs.Common.{◌≡◌, ◌+◌, refl, add-one, arith}
+use Rattle.std.proofs.Common.{◌≡◌, ◌+◌, suc, true, false, refl, sym, ◌∙◌, arith}
 use mir.Syntax.{w16}
 use mir.Val.{to_z, of_z}
 use borrow.Author.Rules.{rules}
-use Rattle.fixed.specs.Lists.{at, better, best}
+use Rattle.std.specs.Int.Signed.{le_z}
+use Rattle.fixed.specs.Lists.{at, best}
+use Rattle.fixed.proofs.Choices.{best_more}
 use Rattle.pitch_choice.specs.Choices.{best_lag}
 use Rattle.pitch_choice.proofs.best_lag.Goals as goal
+use Rattle.pitch_choice.proofs.best_lag.Goals.{then-correlation-next, else-correlation-next}
 
 pub loop-i-init : goal.loop-i-init
 unfolding best_lag best
-loop-i-init c = (omega arith, omega arith, omega arith, refl)
-
-pub loop-i-preserved-then-correlation-start : goal.loop-i-preserved-then-correlation-start
-unfolding best_lag best better
-loop-i-preserved-then-correlation-start c =
-    let cs = c.args.correlation.now in
-    let start = c.args.start in
-    let x : to_z w16 (of_z w16 (at cs (start + (c.loop-i.i + 1)))) ≡ at cs (start + (c.loop-i.i + 1)) = search rules in
-    let y : to_z w16 (of_z w16 (at cs c.loop-i.lag)) ≡ at cs c.loop-i.lag = search rules in
-    let t = rw (x, y, c.loop-i.invariant.3, add-one c.loop-i.i) at c.if-correlation-start.true in
-    (omega arith, omega arith, omega arith, rw (add-one c.loop-i.i, t))
+loop-i-init c = (omega arith, refl)
 
 pub loop-i-preserved : goal.loop-i-preserved
-unfolding best_lag best better
+unfolding best_lag
 loop-i-preserved c =
     let cs = c.args.correlation.now in
     let start = c.args.start in
-    let x : to_z w16 (of_z w16 (at cs (start + (c.loop-i.i + 1)))) ≡ at cs (start + (c.loop-i.i + 1)) = search rules in
-    let y : to_z w16 (of_z w16 (at cs c.loop-i.lag)) ≡ at cs c.loop-i.lag = search rules in
-    let t = rw (x, y, c.loop-i.invariant.3, add-one c.loop-i.i) at c.if-correlation-start.false in
-    (omega arith, omega arith, omega arith, rw (add-one c.loop-i.i, t) c.loop-i.invariant.3)
+    let lag = c.loop-i.lag in
+    let i = c.loop-i.i in
+    let e = c.loop-i.invariant.1 in
+    let k : start + i + 1 ≡ start + suc i = omega arith in
+    let x : to_z w16 (of_z w16 (at cs lag)) ≡ at cs lag = search rules in
+    let y : to_z w16 (of_z w16 (at cs (start + i + 1))) ≡ at cs (start + i + 1) = search rules in
+    elim c.if-correlation-next.branch [
+      | then-correlation-next w ↦
+          let t = rw (x, y, e) at w.if-correlation-next.true in
+          (omega (arith, w.lag-is), w.lag-is ∙ sym (best_more le_z (at cs) start i (start + i + 1) true k t))
+      | else-correlation-next w ↦
+          let t = rw (x, y, e) at w.if-correlation-next.false in
+          (omega (arith, w.lag-is), w.lag-is ∙ e ∙ sym (best_more le_z (at cs) start i (start + i + 1) false k t))
+    ]

@@ -9,17 +9,14 @@ use Rattle.pitch_correlation.proofs.correlated.Given as goal
 -- after the lag next - 1
 abbrev pub invariant-loop-next : goal.invariant-loop-next
 invariant-loop-next l =
-    (l.low < l.next)
-    × (l.next ≤ l.end)
-    × (l.end ≤ 148)
-    × (length l.excitation ≡ 194)
-    × (l.roots ≡ inverses)
-    × Known l.target l.impulse l.room l.peak
-    × (l.loud ≡ loud l.first)
-    × (l.filtered ≡ filtered l.loud l.excitation l.impulse l.low l.first (l.next - 1 - l.low))
-    × (l.energy ≡ dot l.filtered l.filtered 40)
-    × (length l.correlation ≡ 148)
-    × Filled (between (correlation_at l.loud l.excitation l.target l.impulse l.low l.first) (λ k. pos 0) l.low l.next) (pos 0) 148 l.correlation
-
-abbrev pub decreases-loop-next : goal.decreases-loop-next
-decreases-loop-next l = l.end - l.next
+    record {
+      ordered : l.low < l.end;
+      in_table : l.end ≤ 148;
+      roots_are : l.roots ≡ inverses;
+      known : Known l.target l.impulse l.room l.peak;
+      loud_is : l.loud ≡ loud l.first;
+      filtered_is : l.filtered ≡ filtered l.loud l.excitation l.impulse l.low l.first (l.next - 1 - l.low);
+      energy_is : l.energy ≡ dot l.filtered l.filtered 40;
+      long : length l.correlation ≡ 148;
+      placed : Filled (between (correlation_at l.loud l.excitation l.target l.impulse l.low l.first) (λ k. pos 0) l.low l.next) (pos 0) 148 l.correlation;
+    }

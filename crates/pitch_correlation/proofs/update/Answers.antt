@@ -40,12 +40,12 @@ loop-j-preserved c =
     let j = c.loop-j.j in
     let old = moved_at a.filtered.now in
     let new = alike_at a.loud a.impulse.now (to_z w16 (of_z w16 a.sample)) a.filtered.now in
-    let v : ℤ = to_z w16 (of_z w16 c.add16.result) in
+    let v : ℤ = to_z w16 (of_z w16 c.add.result) in
     let h : to_z w16 (of_z w16 (at a.impulse.now j)) ≡ at a.impulse.now j = search rules in
     let l : j < 40 = omega arith in
     let r : to_z w16 (of_z w16 (at c.loop-j.next j)) ≡ at c.loop-j.next j = search rules in
     let g : to_z w16 (of_z w16 (at c.loop-j.next j)) ≡ old j = r ∙ c.loop-j.invariant.1 j l ∙ at_end new old 0 j in
-    let e : v ≡ new j = rw (got w16 c.add16.type_inv c.add16.ensures, got w16 c.product_high.type_inv c.product_high.ensures, h, g, c.filter_shift-shift.ensures, shift_held a.loud) in (
+    let e : v ≡ new j = rw (got w16 c.add.type_inv c.add.ensures, got w16 c.product_high.type_inv c.product_high.ensures, h, g, c.filter_shift-shift.ensures, shift_held a.loud) in (
       length-set c.loop-j.next j v ∙ c.loop-j.invariant.0,
       placed_more new old 0 j 40 c.loop-j.next v (omega arith) (omega arith) e c.loop-j.invariant.1,
     )

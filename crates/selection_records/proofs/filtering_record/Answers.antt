@@ -1,13 +1,7 @@
 use Rattle.std.proofs.Common.{refl, ◌∙◌, arith}
-use borrow.Author.Tests.{ne_eqb}
 use Rattle.feed.proofs.Wordings.{words_read}
-use Rattle.selection_records.specs.Records.{filtering}
 use Rattle.selection_records.proofs.Readings.{filtering_read}
 use Rattle.selection_records.proofs.filtering_record.Goals as goal
-
-pub returns-then-body-ne184 : goal.returns-then-body-ne184
-unfolding filtering
-returns-then-body-ne184 c = rw (ne_eqb _ _ c.if-body-ne184.true)
 
 pub returns : goal.returns
 returns c =

@@ -1,17 +1,11 @@
-use native.Mathlib.Omega.{arith}
-use lib.IntN.{pos}
-use lib.Seq.{ext_get_or}
 use borrow.Author.Tests.{eq-eqb, ne_eqb}
 use Rattle.fixed.specs.Lists.{copied}
 use Rattle.sums.proofs.copy.Goals as goal
 
 pub returns-then-words-list : goal.returns-then-words-list
 unfolding copied
-returns-then-words-list c = let a = ne_eqb _ _ c.if-words-list.true in rw a
+returns-then-words-list c = let a = eq-eqb _ _ c.if-words-list.true in rw a c.copy_from_slice.ensures.after
 
-pub returns : goal.returns
+pub returns-else-words-list : goal.returns-else-words-list
 unfolding copied
-returns c =
-    let a = eq-eqb _ _ c.if-words-list.false in
-    let xs = c.args.words.now in
-    rw a (ext_get_or (pos 0) c.loop-i.list xs (omega arith) (λ k l. c.loop-i.invariant.1 k (omega arith)))
+returns-else-words-list c = let a = ne_eqb _ _ c.if-words-list.false in rw a

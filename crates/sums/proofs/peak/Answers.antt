@@ -7,13 +7,13 @@ use Rattle.fixed.specs.Lists.{at}
 use Rattle.sums.specs.Plain.{peak}
 use Rattle.sums.proofs.peak.Goals as goal
 
-pub loop-i-init : goal.loop-i-init
+pub loop-word-init : goal.loop-word-init
 unfolding peak
-loop-i-init c = refl
+loop-word-init c = refl
 
-pub loop-i-preserved : goal.loop-i-preserved
+pub loop-word-preserved : goal.loop-word-preserved
 unfolding peak
-loop-i-preserved c =
+loop-word-preserved c =
     let x = c.args.list.now in
-    let e : to_z w16 (of_z w16 (at x c.loop-i.i)) ≡ at x c.loop-i.i = search rules in
-    rw (c.greater-most.ensures, c.magnitude.ensures, e, c.loop-i.invariant, add-one c.loop-i.i)
+    let e : to_z w16 (of_z w16 (at x c.loop-word.word-index)) ≡ at x c.loop-word.word-index = search rules in
+    rw (c.max-most.ensures, c.unsigned_abs.ensures.value, e, c.loop-word.invariant, add-one c.loop-word.word-index)

@@ -3,5 +3,5 @@ use Rattle.fixed.specs.Lists.{at}
 use Rattle.sums.specs.Plain.{peak}
 use Rattle.sums.proofs.peak.Given as goal
 
-abbrev pub invariant-loop-i : goal.invariant-loop-i
-invariant-loop-i l = l.most ≡ peak (at l.list) l.i
+abbrev pub invariant-loop-word : goal.invariant-loop-word
+invariant-loop-word l = l.most ≡ peak (at l.list) l.word-index

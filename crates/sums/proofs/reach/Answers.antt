@@ -8,13 +8,15 @@ use Rattle.fixed.specs.Lists.{at}
 use Rattle.sums.specs.Plain.{reach}
 use Rattle.sums.proofs.reach.Goals as goal
 
-pub loop-i-init : goal.loop-i-init
+pub loop-word-init : goal.loop-word-init
 unfolding reach
-loop-i-init c = (omega arith, refl)
+loop-word-init c = (omega arith, refl)
 
-pub loop-i-preserved : goal.loop-i-preserved
+pub loop-word-preserved : goal.loop-word-preserved
 unfolding reach
-loop-i-preserved c =
+loop-word-preserved c =
     let x = c.args.list.now in
-    let e : to_z w16 (of_z w16 (at x c.loop-i.i)) ≡ at x c.loop-i.i = search rules in
-    (omega (arith, c.magnitude.type_inv), rw (c.magnitude.ensures, e, c.loop-i.invariant.1, add-one c.loop-i.i))
+    let e : to_z w16 (of_z w16 (at x c.loop-word.word-index)) ≡ at x c.loop-word.word-index = search rules in (
+      omega (arith, c.unsigned_abs.type_inv, c.loop-word.invariant.0),
+      rw (c.unsigned_abs.ensures.value, e, c.loop-word.invariant.1, add-one c.loop-word.word-index),
+    )

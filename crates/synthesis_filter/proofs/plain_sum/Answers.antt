@@ -12,12 +12,12 @@ use borrow.Author.Rules.{rules}
 use Rattle.synthesis_filter.proofs.plain_sum.Goals as goal
 
 -- the product that an iteration subtracts
-product : (c : goal.After-exact-sum-in-loop-tap) → to_z w32 (of_z w32 c.exact-sum-in-loop-tap.result) ≡ tapped c.args.coefficients.now c.args.samples.now c.args.place (c.loop-tap.tap - 1)
+product : (c : goal.After-exact-sum-in-loop-tap) → to_z w32 (of_z w32 c.exact-sum-in-loop-tap.result) ≡ tapped c.args.coefficients.now c.args.before.samples.now c.args.before.place (c.loop-tap.tap - 1 - 1)
 product c =
     let cs = c.args.coefficients.now in
-    let ys = c.args.samples.now in
-    let place = c.args.place in
-    let t = c.loop-tap.tap in
+    let ys = c.args.before.samples.now in
+    let place = c.args.before.place in
+    let t = c.loop-tap.tap - 1 in
     let q : t ≡ suc (t - 1) = omega arith in
     let x : to_z w16 (of_z w16 (at cs t)) ≡ at cs t = search rules in
     let y : to_z w16 (of_z w16 (at ys (place - t))) ≡ at ys (place - t) = search rules in
@@ -26,20 +26,20 @@ product c =
 pub overflow_sub-sum : goal.overflow_sub-sum
 overflow_sub-sum c =
     let cs = c.args.coefficients.now in
-    let ys = c.args.samples.now in
-    let m = c.loop-tap.tap - 1 in
-    let q : c.loop-tap.tap ≡ suc m = omega arith in
+    let ys = c.args.before.samples.now in
+    let m = c.loop-tap.tap - 1 - 1 in
+    let q : c.loop-tap.tap - 1 ≡ suc m = omega arith in
     let h = rw q at c.loop-tap.invariant.1 in
     let z = to_z w32 c.loop-tap.sum-bits in
-    rw (product c) (fits_abs w32 (z -ℤ tapped cs ys c.args.place m) (omega (arith, h, bound_above cs ys c.args.place z m)))
+    rw (product c) (fits_abs w32 (z -ℤ tapped cs ys c.args.before.place m) (omega (arith, h, bound_above cs ys c.args.before.place z m)))
 
 pub loop-tap-preserved : goal.loop-tap-preserved
 loop-tap-preserved c =
     let cs = c.args.coefficients.now in
-    let ys = c.args.samples.now in
-    let place = c.args.place in
-    let m = c.loop-tap.tap - 1 in
-    let q : c.loop-tap.tap ≡ suc m = omega arith in
+    let ys = c.args.before.samples.now in
+    let place = c.args.before.place in
+    let m = c.loop-tap.tap - 1 - 1 in
+    let q : c.loop-tap.tap - 1 ≡ suc m = omega arith in
     let e = product c in
     let h = rw q at c.loop-tap.invariant.1 in
     let z = to_z w32 c.loop-tap.sum-bits in
@@ -56,7 +56,7 @@ unfolding exact_less
 returns c =
     let cs = c.args.coefficients.now in
     let z = to_z w32 c.loop-tap.sum-bits in
-    let n : c.loop-tap.tap ≡ 0 = omega arith in
+    let n : c.loop-tap.tap - 1 ≡ 0 = omega arith in
     let e = rw (to_z-of_z c.ranges.excitation, n) at c.loop-tap.invariant.2 in
     to_z-of_z (fits_abs w32 (pos 2 *ℤ z) (rw (abs_mul (pos 2) z) (omega (arith, c.loop-tap.invariant.1))))
-    ∙ rw e (sym (plain_filter cs c.args.samples.now c.args.place c.args.excitation c.requires.3))
+    ∙ rw e (sym (plain_filter cs c.args.before.samples.now c.args.before.place c.args.excitation c.requires))

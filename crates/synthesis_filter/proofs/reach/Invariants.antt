@@ -3,5 +3,5 @@ use Prim.Native.Nat.{◌≤◌, ◌*◌}
 use Rattle.synthesis_filter.specs.Plain.{magnitudes}
 use Rattle.synthesis_filter.proofs.reach.Given as goal
 
-abbrev pub invariant-loop-i : goal.invariant-loop-i
-invariant-loop-i l = (l.sum ≤ l.i * 65535) × (l.sum ≡ magnitudes l.coefficients l.i)
+abbrev pub invariant-loop-coefficient : goal.invariant-loop-coefficient
+invariant-loop-coefficient l = (l.sum ≤ l.coefficient-index * 65535) × (l.sum ≡ magnitudes l.coefficients l.coefficient-index)

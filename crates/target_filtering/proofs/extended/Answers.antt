@@ -1,16 +1,24 @@
-use mathlib.Core.Path.{◌≡◌, refl}
-use lib.IntN.{pos}
-use lib.ListN.{replicate}
+use mathlib.Core.Path.{◌≡◌, refl, ap, ◌∙◌}
+use mathlib.Core.List.{List, [], ◌∷◌, ◌++◌}
+use Prim.Native.Nat.{ℕ, zero, suc, ◌+◌}
 use native.Mathlib.Omega.{arith}
-use Rattle.fixed.specs.Lists.{at}
-use Rattle.fixed.proofs.Lists.{none_placed, zeros}
-use Rattle.target_filtering.proofs.Lengths.{with_zeros}
+use lib.IntN.{ℤ, pos}
+use lib.ListN.{replicate, length-append}
+use Rattle.fixed.specs.Lists.{at, part}
+use Rattle.fixed.proofs.Lists.{filled_all}
 use Rattle.target_filtering.proofs.extended.Goals as goal
 
-pub loop-i-init : goal.loop-i-init
-loop-i-init c = (refl, none_placed (at c.args.coefficients.now) (λ k. pos 0) 0 40 (replicate 40 (pos 0)) (zeros 40))
+-- a list reads 0 past its end, and so zeros after it change no place
+zeros_after : (xs : List ℤ) (n k : ℕ) → at (xs ++ replicate n (pos 0)) k ≡ at xs k
+zeros_after [] zero k = refl
+zeros_after [] (suc n) zero = refl
+zeros_after [] (suc n) (suc k) = zeros_after [] n k
+zeros_after (x ∷ xs) n zero = refl
+zeros_after (x ∷ xs) n (suc k) = zeros_after xs n k
 
 pub returns : goal.returns
+unfolding part
 returns c =
-    let e : c.loop-i.i ≡ 11 = omega arith in
-    with_zeros 11 40 c.args.coefficients.now c.loop-i.words c.requires c.loop-i.invariant.0 (rw e at c.loop-i.invariant.1)
+    let cs = c.args.coefficients.now in
+    rw c.copy_from_slice.ensures.after
+    (filled_all (λ k. at cs (0 + k)) (pos 0) 40 (cs ++ replicate 29 (pos 0)) (length-append cs (replicate 29 (pos 0)) ∙ rw c.told-coefficients) (λ k l. let z : k ≡ 0 + k = omega arith in zeros_after cs 29 k ∙ ap (at cs) z))

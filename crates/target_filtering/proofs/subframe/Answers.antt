@@ -12,9 +12,9 @@ returns c =
     let quantized = c.args.quantized.now in
     let speech = c.args.speech.now in
     let past = c.args.error_history.now in
-    let r : c.filtered-residual.result ≡ Residu quantized speech = rw c.filtered-residual.ensures (filtered_whole quantized speech c.requires.2 c.requires.0) in
+    let r : c.filtered-residual.result ≡ Residu quantized speech = rw c.filtered-residual.ensures (filtered_whole quantized speech c.told-quantized c.told-speech) in
     let y : c.synthesis-error.result ≡ with_past quantized (Residu quantized speech) past =
-    rw (c.synthesis-error.ensures, r) (synthesis_whole quantized (Residu quantized speech) past c.requires.2 (residu_length quantized speech) c.requires.3)
+    rw (c.synthesis-error.ensures, r) (synthesis_whole quantized (Residu quantized speech) past c.told-quantized (residu_length quantized speech) c.told-error_history)
     in
     rw (
       c.put_out.ensures,
@@ -22,7 +22,6 @@ returns c =
       c.impulse_response.ensures,
       y,
       r,
-      c.weight-weighted_two.ensures,
-      c.weight-weighted_one.ensures,
-      c.eleven-unquantized.ensures,
+      c.weight-denominator.ensures,
+      c.weight-numerator.ensures,
     )

@@ -1,4 +1,4 @@
-use mathlib.Core.Path.{◌≡◌}
+use mathlib.Core.Path.{◌≡◌, refl}
 use mathlib.Core.Bool.{Bool, true, false, cond}
 use Prim.Native.Nat.{ℕ, ◌≤◌}
 use native.Mathlib.Omega.{arith}
@@ -19,7 +19,7 @@ overflow_cast-index c =
     let a = c.args in
     let n = a.self.next in
     let f = sent_fits handset (omega arith) (omega arith) a.self.previous.samples a.first a.second a.excitation.now a.target.now a.impulse.now n in
-    let e : c.index-index.result ≤ cond (absolute n) 255 31 = rw (c.index-index.ensures, c.chosen_lag-lag.ensures, c.window_start-start.ensures) f in
+    let e : c.index-index.result ≤ cond (absolute n) 255 31 = rw (c.index-index.ensures, c.chosen_lag-chosen.ensures, c.window_start-start.ensures) f in
     record { fits = omega (arith, byte (absolute n) c.index-index.result e) }
 
 pub returns : goal.returns
@@ -29,8 +29,8 @@ returns c =
     let p = a.self.previous.samples in
     let start = start_of handset n p a.first a.second in
     let l = pitch_in n start a.excitation.now a.target.now a.impulse.now in
-    let i : c.index-index.result ≡ index_of n start l = rw (c.index-index.ensures, c.chosen_lag-lag.ensures, c.window_start-start.ensures) in
-    let r : c.decoded.result ≡ l =
-    rw (c.decoded.ensures, i) (sent_back handset (omega arith) (omega arith) p a.first a.second a.excitation.now a.target.now a.impulse.now n)
+    let i : c.index-index.result ≡ index_of n start l = rw (c.index-index.ensures, c.chosen_lag-chosen.ensures, c.window_start-start.ensures) in
+    let r : c.decoded-lag.result ≡ l =
+    rw (c.decoded-lag.ensures, i) (sent_back handset (omega arith) (omega arith) p a.first a.second a.excitation.now a.target.now a.impulse.now n)
     in
-    rw (r, i, c.window_start-start.ensures) at c.sent.ensures
+    rw (r, i, c.window_start-start.ensures, c.next.ensures) refl

@@ -1,0 +1,6 @@
+use Rattle.std.proofs.Common.{◌+◌, ◌*◌, ◌≤◌}
+use Rattle.feed_lines.proofs.Block.push_words.Given as goal
+
+-- a word takes at most 22 bytes
+abbrev pub invariant-loop-i : goal.invariant-loop-i
+invariant-loop-i l = l.self.filled ≤ l.initial.self.filled + 22 * l.i

@@ -1,6 +1,0 @@
-use Rattle.std.proofs.Common.{◌+◌, ◌*◌, ◌≤◌}
-use Rattle.feed_lines.proofs.put_words.Given as goal
-
--- a word takes at most 22 bytes
-abbrev pub invariant-loop-i : goal.invariant-loop-i
-invariant-loop-i l = l.next ≤ l.filled + 22 * l.i
