@@ -6,11 +6,8 @@ ghost use Rattle.codebook.specs.Words.{number_of, position_bits, slot, sign_bit}
 ghost use Rattle.refusal.specs.Refused.{told};
 ghost use Rattle.codebook.specs.Readers.{place_of, pulse_of, places_of, pulses_at, decode};
 
+use fixed::sizes::{SUBFRAME_SAMPLES, TRACKS};
 use refusal::Refusal;
-
-const SUBFRAME_SAMPLES: usize = 40;
-
-const TRACKS: usize = 5;
 
 const MAX_POSITIONS: u16 = 8191;
 

@@ -1,22 +1,19 @@
 // The choice of four pulses, TS 26.073 search_4i40, from codebook/search.rs.
 #![tactic(auto)]
 
-ghost use Rattle.std.specs.Prelude.{◌≡◌, cond, [], ℕ, ◌+◌, ◌*◌, ◌/◌, ◌<◌, pos, get_or};
+ghost use Rattle.std.specs.Prelude.{◌≡◌, cond, [], ℕ, ◌+◌, ◌*◌, ◌/◌, ◌<◌, ℤ, pos, get_or};
 ghost use Rattle.std.specs.Int.Signed.{mag};
 ghost use Rattle.fixed.specs.Operators.{add, mult, round, L_mult, L_mac, L_deposit_h};
 ghost use Rattle.fixed.specs.Lists.{at, tabulate};
 ghost use Rattle.codebook_target.specs.Starts.{may_start};
 ghost use Rattle.codebook_matrix.specs.Matrices.{cell};
 ghost use Rattle.codebook_steps.specs.declared.Step.{Step};
-ghost use Rattle.codebook_steps.specs.Steps.{none_in, kept};
+ghost use Rattle.codebook_steps.specs.Steps.{step_to, none_in, kept};
 ghost use Rattle.codebook_choice.specs.Choices.{second_at, third_at, fourth_at, best_step, last_step, permutation, permutations, search_4i40, zero_step};
 
 use codebook_steps::{Rated, Ratio, Step, Trial};
+use fixed::sizes::{POSITIONS_PER_TRACK, TRACKS};
 use std::marker::Model;
-
-const TRACKS: usize = 5;
-
-const POSITIONS_PER_TRACK: usize = 8;
 
 const EIGHTH_Q15: i16 = 4096;
 
@@ -154,8 +151,15 @@ impl<'a> Lists<'a> {
     fn permutation(self, held: Trial, a: Track, b: Track, c: Track, d: Track) -> Trial
         ensures { result ≡ permutation self.entry.correlation.now self.entry.table.now self.entry.left.now a b c d held 8 }
     {
-        let ones = self.seconds(a, b);
-        let twos = self.thirds(a, &ones, c);
+        let ones = self.of_starts(a, b, |first, _| self.second(first, b));
+        let twos = self.of_starts(
+            a,
+            c,
+            |first, n|
+                requires { n < 8 }
+                ensures { result ≡ best_step (third_at self.entry.correlation.now self.entry.table.now first (get_or ones n zero_step)) c 8 }
+            { self.third(first, ones[n], c) },
+        );
         let mut best = held;
         for n in 0..POSITIONS_PER_TRACK {
             best = self.started(best, a.place(n), ones[n], twos[n], d);
@@ -163,29 +167,21 @@ impl<'a> Lists<'a> {
         best
     }
 
-    // From each start of track a the best place of track b. A loop: a list of steps made by from_fn is copied.
-    fn seconds(self, a: Track, b: Track) -> [Placed; 8]
-        ensures { result ≡ tabulate (λ n. cond (may_start self.entry.left.now (a + 5 * n)) (best_step (second_at self.entry.correlation.now self.entry.table.now (a + 5 * n)) b 8) (none_in b)) 8 }
+    // A step from each start of track a, none in `track` where a place may not start. A loop: a list of steps made by from_fn is copied.
+    fn of_starts<F: Fn(Place, usize) -> Placed>(
+        self,
+        a: Track,
+        track: Track,
+        step: F,
+    ) -> [Placed; 8]
+        requires { (n : ℕ) → n < 8 → F.pre step (a + 5 * n) n }
+        ensures { (f : ℕ → Step) → ((n : ℕ) (s : Step) → n < 8 → F.post step (a + 5 * n) n s → s ≡ f n) → result ≡ tabulate (λ n. cond (may_start self.entry.left.now (a + 5 * n)) (f n) (none_in track)) 8 }
     {
-        let mut steps = [none_in(b); 8];
+        let mut steps = [none_in(track); 8];
         for n in 0..POSITIONS_PER_TRACK {
             let first = a.place(n);
             if self.may_start(first) {
-                steps[n] = self.second(first, b);
-            }
-        }
-        steps
-    }
-
-    // And after it the best place of track c.
-    fn thirds(self, a: Track, ones: &[Placed; 8], c: Track) -> [Placed; 8]
-        ensures { result ≡ tabulate (λ n. cond (may_start self.entry.left.now (a + 5 * n)) (best_step (third_at self.entry.correlation.now self.entry.table.now (a + 5 * n) (get_or ones.now n zero_step)) c 8) (none_in c)) 8 }
-    {
-        let mut steps = [none_in(c); 8];
-        for n in 0..POSITIONS_PER_TRACK {
-            let first = a.place(n);
-            if self.may_start(first) {
-                steps[n] = self.third(first, ones[n], c);
+                steps[n] = step(first, n);
             }
         }
         steps
@@ -221,18 +217,14 @@ impl<'a> Lists<'a> {
         ensures { result ≡ best_step (second_at self.entry.correlation.now self.entry.table.now first) track 8 }
     {
         let sum = self.correlation_at(first);
-        let squares = self.squares(sum, track);
-        let energies = std::array::from_fn(|n| self.second_energy_at(first, track.place(n)));
-        self.best(sum, &squares, &energies, track)
+        self.chosen(sum, track, |place| self.second_energy_at(first, place))
     }
 
     fn third(self, first: Place, one: Placed, track: Track) -> Placed
         ensures { result ≡ best_step (third_at self.entry.correlation.now self.entry.table.now first one) track 8 }
     {
         let sum = one.step().sum;
-        let squares = self.squares(sum, track);
-        let energies = std::array::from_fn(|n| self.third_energy_at(first, one, track.place(n)));
-        self.best(sum, &squares, &energies, track)
+        self.chosen(sum, track, |place| self.third_energy_at(first, one, place))
     }
 
     // An energy up to 9/16, which three pulses of a normalised impulse have at most, leaves the fourth room: nothing is clipped.
@@ -251,13 +243,24 @@ impl<'a> Lists<'a> {
         ensures { result ≡ best_step (fourth_at self.entry.correlation.now self.entry.table.now first second two) track 8 }
     {
         let sum = two.step().sum;
+        self.chosen(
+            sum,
+            track,
+            |place| self.fourth_energy_at(first, second, two, place),
+        )
+    }
+
+    // The best place of a track, by the sum so far and the energy at each place.
+    fn chosen<F: Fn(Place) -> i16>(self, sum: i16, track: Track, energy_at: F) -> Placed
+        requires { F.IsAlwaysCallable energy_at }
+        ensures { (g : ℕ → ℤ) → ((n : ℕ) (e : ℤ) → n < 8 → F.post energy_at (track + 5 * n) e → e ≡ round (g (track + 5 * n))) → result ≡ best_step (λ p. step_to p (add sum (at self.entry.correlation.now p)) (g p)) track 8 }
+    {
         let squares = self.squares(sum, track);
-        let energies = std::array::from_fn(|n| self.fourth_energy_at(
-            first,
-            second,
-            two,
-            track.place(n),
-        ));
+        let energies = std::array::from_fn(
+            |n|
+                requires { (n < 8) × F.IsAlwaysCallable energy_at }
+            { energy_at(track.place(n)) },
+        );
         self.best(sum, &squares, &energies, track)
     }
 

@@ -68,6 +68,7 @@ impl<'a> Pulses<'a> {
         let positions = self.positions();
         let signs = self.sign_bits();
         let mut samples = [0i16; 40];
+        // What the reader leaves there is the innovation, whatever it answers.
         let _ = codebook::read(positions, signs, &mut samples);
         SearchResult {
             words: PulseWords { positions, signs },

@@ -8,8 +8,7 @@ ghost use Rattle.sums.specs.Plain.{squared};
 ghost use Rattle.codebook_matrix.specs.Matrices.{energy, gain_of, scaled_by, normalised, signed, correlations, cor_h};
 
 use fixed::Clipped;
-
-const SUBFRAME_SAMPLES: usize = 40;
+use fixed::sizes::SUBFRAME_SAMPLES;
 
 const INITIAL_ENERGY: i32 = 2;
 
@@ -91,11 +90,7 @@ impl<'a> FullSigns<'a> {
     fn of(words: &'a [i16; 40]) -> Option<Self>
         ensures { IfSome result (λ signs. signs.words.now ≡ words.now) }
     {
-        let mut all = true;
-        for word in words {
-            all &= is_full(*word);
-        }
-        if all {
+        if words.iter().all(|word| is_full(*word)) {
             return Some(FullSigns { words });
         }
         None

@@ -7,9 +7,8 @@ ghost use Rattle.refusal.specs.Refused.{told};
 
 use codebook_code::PulseWords;
 use codebook_sharpening::SharpeningGain;
+use fixed::sizes::SUBFRAME_SAMPLES;
 use refusal::Refusal;
-
-const SUBFRAME_SAMPLES: usize = 40;
 
 const MIN_LAG: u16 = 19;
 

@@ -4,7 +4,7 @@
 ghost use Rattle.std.specs.Prelude.{◌≡◌};
 ghost use Rattle.codebook_sharpening.specs.Sharpenings.{doubled, sharpened};
 
-const SUBFRAME_SAMPLES: usize = 40;
+use fixed::sizes::SUBFRAME_SAMPLES;
 
 // The sharpening gain, in Q14. No gain in Q15, and no other gain, is of this kind.
 #[repr(C)]

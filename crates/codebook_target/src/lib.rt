@@ -7,9 +7,7 @@ ghost use Rattle.fixed.specs.Lists.{tabulate};
 ghost use Rattle.codebook_target.specs.Targets.{correlated, greatest, total, cor_h_x};
 ghost use Rattle.codebook_target.specs.Starts.{sign_of, signs_of, magnitudes_of, lesser, least, set_sign};
 
-const TRACKS: usize = 5;
-
-const POSITIONS_PER_TRACK: usize = 8;
+use fixed::sizes::{POSITIONS_PER_TRACK, TRACKS};
 
 // So often a place of a track loses the right to start.
 const DROPS_PER_TRACK: usize = 4;

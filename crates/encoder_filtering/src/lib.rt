@@ -5,13 +5,8 @@ ghost use Rattle.std.specs.Prelude.{◌≡◌};
 ghost use Rattle.refusal.specs.Refused.{told};
 ghost use Rattle.encoder_filtering.specs.Subframes.{lists, residual, prepare};
 
+use fixed::sizes::{COEFFICIENTS, LPC_ORDER, SUBFRAME_SAMPLES};
 use refusal::Refusal;
-
-const SUBFRAME_SAMPLES: usize = 40;
-
-const LPC_ORDER: usize = 10;
-
-const COEFFICIENTS: usize = 11;
 
 const INPUT_SAMPLES: usize = 50;
 

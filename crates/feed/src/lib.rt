@@ -147,14 +147,14 @@ fn copy_low_first(body: &[u8], from: usize, list: &mut [i16])
 fn low_first(first: u8, second: u8) -> i16
     ensures { swapped result ≡ extract_l (pos (first * 256 + second)) }
 {
-    word(second, first)
+    fixed::word(second, first)
 }
 
 fn swap_all(list: &mut [i16])
     ensures { list.new ≡ tabulate (λ k. swapped (at list.old k)) (length list.old) }
 {
-    for i in 0..list.len() {
-        list[i] = swap_bytes(list[i]);
+    for word in list {
+        *word = swap_bytes(*word);
     }
 }
 
@@ -162,19 +162,6 @@ fn swap_all(list: &mut [i16])
 fn swap_bytes(v: i16) -> i16
     ensures { result ≡ swapped v }
 {
-    let bits = bits_of(v);
-    word((bits % 256) as u8, (bits / 256) as u8)
-}
-
-// As `fixed::word`, by a sum: by `from_be_bytes` the copy is no longer made in one piece.
-fn word(high: u8, low: u8) -> i16
-    ensures { result ≡ extract_l (pos (high * 256 + low)) }
-{
-    fixed::low_word((high as u16 * 256 + low as u16) as i32)
-}
-
-fn bits_of(v: i16) -> u16
-    ensures { result ≡ remainder v 65536 }
-{
-    v.cast_unsigned()
+    let bits = v.cast_unsigned();
+    fixed::word((bits % 256) as u8, (bits / 256) as u8)
 }

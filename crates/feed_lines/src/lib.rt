@@ -6,9 +6,7 @@ ghost use Rattle.refusal.specs.Refused.{number};
 ghost use Rattle.feed.specs.Records.{ends_feed};
 ghost use Rattle.feed_lines.specs.Endings.{Stops, stops};
 
-use lag_reader::Reader;
 use open_loop::Detector;
-use pitch_search::Search;
 use refusal::Refusal;
 use selection::ClosedLoop;
 use selection_answers::Answer;
@@ -19,11 +17,9 @@ use std::{fmt, io};
 // A line begins at most here, and so fits the output block: it has at most 20 digits, a name, 160 numbers of at most 22 bytes and its end.
 const LAST_START: usize = 61440;
 
-// How the printing ended.
+// How the printing ended before the feed did.
 #[derive(Clone, Copy, Debug, PartialEq, Eq)]
 pub enum Ended {
-    // Where the feed does: every record has its line.
-    FeedEnd,
     // By number 9 or 10, and the place of that record's kind in the feed, counted from 0.
     Refused { refusal: Refusal, place: u64 },
     // Standard input could not be read further.
@@ -33,24 +29,24 @@ pub enum Ended {
 }
 
 // Prints a line for each record of the feed that the reader gives, as the program does from standard input to standard output, and a sentence on `errors` where the printing does not end where the feed does.
-pub fn print<R: Read, W: Write, E: Write>(reader: &mut R, writer: &mut W, errors: &mut E) -> Ended
-    ensures { Stops result }
+pub fn print<R: Read, W: Write, E: Write>(
+    reader: &mut R,
+    writer: &mut W,
+    errors: &mut E,
+) -> Result<(), Ended>
+    ensures { IfErr result Stops }
 {
     let mut input = Input::empty();
     let mut history_q0 = Detector::fresh().history_q0;
     let mut selection = Selection::fresh(&mut history_q0);
     let mut lines = Lines::begun(writer);
-    let stopped = match print_all(reader, &mut input, &mut selection, &mut lines) {
-        Ok(()) => Ended::FeedEnd,
-        Err(ended) => ended,
-    };
+    let printed = print_all(reader, &mut input, &mut selection, &mut lines);
     // Lines that are lost weigh more than a refusal.
-    let ended = match lines.flush() {
-        Ok(()) => stopped,
-        Err(lost) => lost,
-    };
-    lines.report(ended, errors);
-    ended
+    let result = lines.flush().and(printed);
+    if let Err(ended) = result {
+        lines.report(ended, errors);
+    }
+    result
 }
 
 // Up to the end of the feed. No input has as many blocks as the loop has turns.
@@ -108,7 +104,7 @@ fn print_block<W: Write>(
 }
 
 // 01: 'After refusals 9 and 10 it stops', at that record.
-fn feed_ending(answer: Result<Answer, Refusal>) -> Option<Refusal>
+fn feed_ending(answer: Result<Option<Answer>, Refusal>) -> Option<Refusal>
     ensures stops { is_some result ≡ stops answer }
     ensures refusal { IfSome result (λ r. answer ≡ Err r) }
     ensures ends { IfSome result (λ r. ends_feed (number r) ≡ true) }
@@ -183,16 +179,18 @@ struct Selection<'h> {
 impl<'h> Selection<'h> {
     fn fresh(history_q0: &'h mut [i16; 143]) -> Self {
         Selection {
-            ends: ClosedLoop {
-                searcher: Search::fresh(),
-                reader: Reader::fresh(),
-            },
+            ends: ClosedLoop::fresh(),
             history_q0,
         }
     }
 
     // The words are those of a filtering record.
-    fn step(&mut self, feed: &[u8], at: usize, words: &mut [i16; 160]) -> Result<Answer, Refusal> {
+    fn step(
+        &mut self,
+        feed: &[u8],
+        at: usize,
+        words: &mut [i16; 160],
+    ) -> Result<Option<Answer>, Refusal> {
         let step = selection::step_lent(self.ends, self.history_q0, words, feed, at);
         self.ends = step.after;
         step.answer
@@ -220,7 +218,11 @@ impl<'w, W: Write> Lines<'w, W> {
     }
 
     // The line of the next record. Behind the last place where a line may begin, the block is written first.
-    fn push(&mut self, answer: Result<Answer, Refusal>, words: &[i16; 160]) -> Result<(), Ended>
+    fn push(
+        &mut self,
+        answer: Result<Option<Answer>, Refusal>,
+        words: &[i16; 160],
+    ) -> Result<(), Ended>
         ensures { IfErr result Stops }
     {
         if LAST_START < self.block.filled {
@@ -278,7 +280,12 @@ impl Block {
         }
     }
 
-    fn push_line(&mut self, number: u64, answer: Result<Answer, Refusal>, words: &[i16; 160])
+    fn push_line(
+        &mut self,
+        number: u64,
+        answer: Result<Option<Answer>, Refusal>,
+        words: &[i16; 160],
+    )
         requires { self.old.filled ≤ 61440 }
         ensures { self.new.filled ≤ self.old.filled + 3561 }
     {
@@ -287,24 +294,24 @@ impl Block {
         self.push(*b"\n");
     }
 
-    fn push_answer(&mut self, answer: Result<Answer, Refusal>, words: &[i16; 160])
+    fn push_answer(&mut self, answer: Result<Option<Answer>, Refusal>, words: &[i16; 160])
         requires { self.old.filled ≤ 61460 }
         ensures { self.new.filled ≤ self.old.filled + 3540 }
     {
         match answer {
             // Where the feed ends.
-            Ok(Answer::End) => {}
-            Ok(Answer::Reset) => self.push(*b" reset"),
-            Ok(Answer::Open(lag)) => self.push_fields(*b" open", [lag as i32]),
-            Ok(Answer::Pitch { index, lag, hertz }) => {
+            Ok(None) => {}
+            Ok(Some(Answer::Reset)) => self.push(*b" reset"),
+            Ok(Some(Answer::Open(lag))) => self.push_fields(*b" open", [lag.samples() as i32]),
+            Ok(Some(Answer::Pitch { index, lag, hertz })) => {
                 let thirds = i16::from(lag.fraction) as i32;
                 let fields = [index as i32, lag.samples as i32, thirds, hertz as i32];
                 self.push_fields(*b" pitch", fields)
             }
-            Ok(Answer::Pulses(words)) => {
+            Ok(Some(Answer::Pulses(words))) => {
                 self.push_fields(*b" pulses", [words.positions as i32, words.signs as i32])
             }
-            Ok(Answer::Gain(chosen)) => {
+            Ok(Some(Answer::Gain(chosen))) => {
                 let row = chosen.row;
                 let fields = [
                     chosen.index as i32,
@@ -313,8 +320,8 @@ impl Block {
                 ];
                 self.push_fields(*b" gain", fields)
             }
-            Ok(Answer::Filter) => self.push_words(words),
-            Ok(Answer::Lag { lag, hertz }) => {
+            Ok(Some(Answer::Filter)) => self.push_words(words),
+            Ok(Some(Answer::Lag { lag, hertz })) => {
                 let thirds = i16::from(lag.fraction) as i32;
                 self.push_fields(*b" lag", [lag.samples as i32, thirds, hertz as i32])
             }
@@ -322,7 +329,7 @@ impl Block {
                 let detail = refusal.detail();
                 self.push(*b" refused");
                 self.push_signed(false, refusal.number() as u64);
-                self.push_signed(detail.negative, detail.magnitude)
+                self.push_signed(detail < 0, detail.unsigned_abs() as u64)
             }
         }
     }
@@ -332,8 +339,7 @@ impl Block {
         ensures { self.new.filled ≤ self.old.filled + N + 22 * M }
     {
         self.push(name);
-        for i in 0..M {
-            let field = fields[i];
+        for field in fields {
             self.push_signed(field < 0, field.unsigned_abs() as u64);
         }
     }
@@ -343,8 +349,8 @@ impl Block {
         ensures { self.new.filled ≤ self.old.filled + 3527 }
     {
         self.push(*b" filter");
-        for i in 0..160 {
-            self.push_word(words[i]);
+        for word in words {
+            self.push_word(*word);
         }
     }
 
@@ -420,9 +426,7 @@ impl Block {
         ensures { self.new.filled ≡ self.old.filled + N }
     {
         let start = self.filled;
-        for i in 0..N {
-            self.bytes[start + i] = text[i];
-        }
+        self.bytes[start..start + N].copy_from_slice(&text);
         self.filled = start + N;
     }
 }
@@ -443,7 +447,7 @@ fn digit(n: u32) -> u8 {
     b'0' + (n % 10) as u8
 }
 
-// How the printing ended, with the number of records; nothing where it ended where the feed does.
+// How the printing ended, with the number of records.
 #[derive(Clone, Copy)]
 struct Sentence {
     ended: Ended,
@@ -453,7 +457,6 @@ struct Sentence {
 impl Display for Sentence {
     fn fmt<W: fmt::Write>(&self, f: &mut Formatter<W>) -> fmt::Result {
         match self.ended {
-            Ended::FeedEnd => Ok(()),
             Ended::Refused { refusal, place } => {
                 let number = self.number;
                 write!(
@@ -461,10 +464,9 @@ impl Display for Sentence {
                     "select: the feed stops making sense at byte {place}, counted from 0: record {number}"
                 )?;
                 let detail = refusal.detail();
-                let magnitude = detail.magnitude;
                 match refusal {
-                    Refusal::FeedEnd(_) => writeln!(f, " ends after {magnitude} bytes of its body"),
-                    _ => writeln!(f, " has kind {magnitude}, and kinds are 0 to 6"),
+                    Refusal::FeedEnd(_) => writeln!(f, " ends after {detail} bytes of its body"),
+                    _ => writeln!(f, " has kind {detail}, and kinds are 0 to 6"),
                 }
             }
             Ended::NotRead => writeln!(f, "select: standard input can't be read"),

@@ -6,11 +6,7 @@ ghost use Rattle.fixed.specs.Operators.{L_shl, round};
 ghost use Rattle.fixed.specs.Lists.{tabulate};
 ghost use Rattle.filters.specs.Filters.{Weight_Ai, taps_to, Residu, filtered};
 
-const SUBFRAME_SAMPLES: usize = 40;
-
-const LPC_ORDER: usize = 10;
-
-const COEFFICIENTS: usize = 11;
+use fixed::sizes::{COEFFICIENTS, LPC_ORDER, SUBFRAME_SAMPLES};
 
 const RESIDUAL_SHIFT: i16 = 3;
 

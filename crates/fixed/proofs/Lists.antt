@@ -1,16 +1,16 @@
 -- A list is known by its places: what a loop that writes one place after another leaves behind.
 use mathlib.Core.Path.{◌≡◌, refl, ap, sym, ◌∙◌}
 use mathlib.Core.Bool.{Bool, true, false, cond, ◌&&◌}
-use mathlib.Core.List.{List}
+use mathlib.Core.List.{List, [], ◌∷◌, ◌++◌}
 use Prim.Native.Nat.{ℕ, zero, suc, ◌+◌, ◌≤◌, ◌<◌}
 use native.Mathlib.Omega.{arith}
 use lib.Dec.{ltb, leb, eqb}
 use lib.IntN.{ℤ, pos}
-use lib.ListN.{length, get_or, set, replicate, get_or-replicate, length-set}
+use lib.ListN.{length, get_or, set, replicate, get_or-replicate, get_or-eq_default, length-replicate, length-append, length-set}
 use lib.Seq.{ext_get_or, get_or-set_same, get_or-set_other}
 use borrow.Author.Count.{below_more}
 use borrow.Author.Tests.{eq-eqb, le-leb, lt-ltb, le-ltb, leb-true, ltb-true, ltb-false, eqb-true, eqb-false}
-use Rattle.fixed.specs.Lists.{tabulate_from, tabulate, copied, between}
+use Rattle.fixed.specs.Lists.{at, tabulate_from, tabulate, copied, between}
 
 module _ {A : Type 0} (f : ℕ → A) (d : A) where
   length_from : (i n : ℕ) → length (tabulate_from i f n) ≡ n
@@ -86,6 +86,24 @@ at_end g d low m = go (leb low m)
 -- and from place 0 all below the end are
 pub below_end : (g d : ℕ → ℤ) (m k : ℕ) → k < m → between g d 0 m k ≡ g k
 below_end g d m k h = rw (le-leb 0 k (omega arith), lt-ltb k m h)
+
+-- a list reads 0 past its end, and so zeros after it change no place
+pub zeros_after : (xs : List ℤ) (n k : ℕ) → at (xs ++ replicate n (pos 0)) k ≡ at xs k
+zeros_after [] zero k = refl
+zeros_after [] (suc n) zero = refl
+zeros_after [] (suc n) (suc k) = zeros_after [] n k
+zeros_after (x ∷ xs) n zero = refl
+zeros_after (x ∷ xs) n (suc k) = zeros_after xs n k
+
+-- m numbers and n zeros
+pub zeros_behind : (f : ℕ → ℤ) (m n : ℕ) → tabulate f m ++ replicate n (pos 0) ≡ tabulate (between f (λ k. pos 0) 0 m) (m + n)
+zeros_behind f m n =
+    let xs = tabulate f m in
+    filled_all (between f (λ k. pos 0) 0 m) (pos 0) (m + n) (xs ++ replicate n (pos 0)) (length-append xs (replicate n (pos 0)) ∙ rw (length_tabulate f (pos 0) m, length-replicate n (pos 0))) (λ k l. zeros_after xs n k ∙ go k (ltb k m) refl)
+  where
+    go : (k : ℕ) (t : Bool) → ltb k m ≡ t → at (tabulate f m) k ≡ between f (λ k. pos 0) 0 m k
+    go k true q = at_tabulate f (pos 0) m k (ltb-true k m q) ∙ sym (below_end f (λ k. pos 0) m k (ltb-true k m q))
+    go k false q = get_or-eq_default (tabulate f m) (pos 0) (rw (length_tabulate f (pos 0) m) (ltb-false k m q)) ∙ rw (le-leb 0 k (omega arith), q)
 
 -- one place more
 pub placed_more : (g d : ℕ → ℤ) (low m n : ℕ) (xs : List ℤ) (v : ℤ) → low ≤ m → m < length xs → v ≡ g m →

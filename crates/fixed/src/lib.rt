@@ -2,11 +2,13 @@
 // The Rust repeats them in every file; here they have one home. Each is equated with a number of the integers (specs/Operators.antt).
 #![tactic(auto)]
 
-ghost use Rattle.std.specs.Prelude.{◌≡◌, ℕ, ◌*◌, ◌+◌, ◌^◌, ◌<◌, ◌≤◌, ℤ, pos, nat_abs, neg_ℤ, ◌+ℤ◌, ◌-ℤ◌, ◌*ℤ◌};
+ghost use Rattle.std.specs.Prelude.{◌≡◌, ℕ, ◌*◌, ◌+◌, ◌^◌, ◌<◌, ℤ, min, pos, nat_abs, neg_ℤ, ◌+ℤ◌, ◌-ℤ◌, ◌*ℤ◌};
 ghost use Rattle.std.specs.Int.Signed.{mag, shr_z};
 ghost use Rattle.fixed.specs.Clip.{clip};
 ghost use Rattle.fixed.specs.Operators.{add, sub, negate, abs_s, L_add, L_sub, L_negate, L_abs, shift_at, L_mult, L_mac, L_msu, mult, extract_h, round, extract_l, L_deposit_h, even_bits, norm_l};
 ghost use Rattle.fixed.specs.Widths.{Operators, of_words, of_longs};
+
+pub mod sizes;
 
 // Twice this is a long, and twice the next number is not.
 const MOST_UNDOUBLED: i32 = 1073741823;
@@ -54,13 +56,7 @@ impl Clipped for i16 {
     ghost operators = { of_words };
 
     fn clip(v: i64) -> i16 {
-        if 32767 < v {
-            return 32767;
-        }
-        if v < -32768 {
-            return -32768;
-        }
-        v as i16
+        v.clamp(-32768, 32767) as i16
     }
 
     fn wide(self) -> i64 {
@@ -84,13 +80,7 @@ impl Clipped for i32 {
     ghost operators = { of_longs };
 
     fn clip(v: i64) -> i32 {
-        if 2147483647 < v {
-            return 2147483647;
-        }
-        if v < -2147483648 {
-            return -2147483648;
-        }
-        v as i32
+        v.clamp(-2147483648, 2147483647) as i32
     }
 
     fn wide(self) -> i64 {
@@ -134,10 +124,9 @@ pub fn shift<N: Clipped>(v: N, n: i16) -> N
 }
 
 fn power_of_two(n: u32) -> i64
-    requires { n ≤ 31 }
-    ensures { result ≡ pos (2 ^ n) }
+    ensures { result ≡ pos (2 ^ min n 31) }
 {
-    (1u64 << n) as i64
+    (1u64 << n.min(31)) as i64
 }
 
 // ---- Products of words.
@@ -208,11 +197,11 @@ pub fn low_word(v: i32) -> i16
     (s - (s >> 16) * 65536 - 32768) as i16
 }
 
-// The word of two bytes.
+// The word of two bytes. By a sum: of `u16::from_be_bytes` the compiler makes slower code where a list is read.
 pub fn word(high: u8, low: u8) -> i16
     ensures { result ≡ extract_l (pos (high * 256 + low)) }
 {
-    low_word(u16::from_be_bytes([high, low]) as i32)
+    low_word((high as u16 * 256 + low as u16) as i32)
 }
 
 pub fn deposit_high(v: i16) -> i32

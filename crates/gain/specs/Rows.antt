@@ -32,11 +32,13 @@ chosen xs ys zs i =
     record {
       index = i;
       row = row i;
-      energy_clips = clips ys ys 40;
-      target_clips = clips xs ys 40;
-      innovation_clips = clips (eighths zs) (eighths zs) 40;
-      target_innovation_clips = clips xs (eighths zs) 40;
-      adaptive_innovation_clips = clips ys (eighths zs) 40;
+      pitch_clips = record { energy = clips ys ys 40; target = clips xs ys 40 };
+      innovation_clips =
+          record {
+            energy = clips (eighths zs) (eighths zs) 40;
+            target = clips xs (eighths zs) 40;
+            adaptive = clips ys (eighths zs) 40;
+          };
     }
 
 unfoldable pub Qua_gain : List ℤ → List ℤ → List ℤ → ℤ → ℕ → ℤ → QuantizedGain

@@ -41,7 +41,7 @@ LimitsOfTheEntry =
 -- ---- 02, request 09: the count of the innovation's energy is 0 whatever the words, since an eighth of one is within 4096
 unfoldable pub InnovationNeverClips : Type 0
 InnovationNeverClips =
-    (xs ys zs : List ℤ) (exponent : ℤ) (fraction : ℕ) (limit : ℤ) → Words zs → (Qua_gain xs ys zs exponent fraction limit).innovation_clips ≡ 0
+    (xs ys zs : List ℤ) (exponent : ℤ) (fraction : ℕ) (limit : ℤ) → Words zs → (Qua_gain xs ys zs exponent fraction limit).innovation_clips.energy ≡ 0
 
 -- ---- computed
 -- the row of lists that hold one word each, with the fraction 0
@@ -61,7 +61,7 @@ Examples =
 abbrev pub counts_of : ℤ → List ℕ
 counts_of v =
     let q = chosen (replicate 40 v) (replicate 40 v) (replicate 40 v) 0 in
-    q.energy_clips ∷ q.target_clips ∷ q.innovation_clips ∷ q.target_innovation_clips ∷ q.adaptive_innovation_clips ∷ []
+    q.pitch_clips.energy ∷ q.pitch_clips.target ∷ q.innovation_clips.energy ∷ q.innovation_clips.target ∷ q.innovation_clips.adaptive ∷ []
 
 unfoldable pub ExamplesOfCounts : Type 0
 ExamplesOfCounts = (counts_of (negsuc 32767) ≡ 40 ∷ 40 ∷ 0 ∷ 33 ∷ 33 ∷ []) × (counts_of (pos 1) ≡ 0 ∷ 0 ∷ 0 ∷ 0 ∷ 0 ∷ [])

@@ -6,7 +6,9 @@ ghost use Rattle.refusal.specs.Refused.{told};
 ghost use Rattle.gain_choice.specs.Rows.{nearest_row};
 ghost use Rattle.gain.specs.Rows.{weights, chosen, predicted, quantize};
 
+use gain_coefficients::InnovationClips;
 use gain_limit::GainLimit;
+use gain_pitch::PitchClips;
 use gain_table::GainRow;
 use refusal::Refusal;
 
@@ -18,17 +20,13 @@ const MAX_EXPONENT: i16 = 127;
 
 const GCODE0_EXPONENT: u8 = 14;
 
-// The row, and at how many of its 40 terms each sum was clipped: the adaptive words' energy and their product with the target, before they are made anew with
-// quarters; then the innovation's energy and its products with the target and with the adaptive words.
+// The row, and at how many of its 40 terms each of the five sums was clipped.
 #[derive(Clone, Copy, Debug, PartialEq, Eq)]
 pub struct QuantizedGain {
     pub index: u16,
     pub row: GainRow,
-    pub energy_clips: u8,
-    pub target_clips: u8,
-    pub innovation_clips: u8,
-    pub target_innovation_clips: u8,
-    pub adaptive_innovation_clips: u8,
+    pub pitch_clips: PitchClips,
+    pub innovation_clips: InnovationClips,
 }
 
 #[tactic(auto, unfolding(crate::specs::Rows::quantize, crate::specs::Rows::Qua_gain, gain_limit::specs::Limits::limit_choice))]
@@ -94,10 +92,7 @@ fn qua_gain(
     QuantizedGain {
         index,
         row: gain_table::row(index),
-        energy_clips: gain.energy_clips,
-        target_clips: gain.target_clips,
-        innovation_clips: weights.innovation_clips,
-        target_innovation_clips: weights.target_innovation_clips,
-        adaptive_innovation_clips: weights.adaptive_innovation_clips,
+        pitch_clips: gain.clips,
+        innovation_clips: weights.clips,
     }
 }

@@ -5,40 +5,42 @@ ghost use Rattle.std.specs.Prelude.{true, cond, ◌≡◌, ℕ, ◌<◌, ◌≤�
 ghost use Rattle.std.specs.Int.Signed.{le_z};
 ghost use Rattle.fixed.specs.Operators.{mult, Mpy_32_16};
 ghost use Rattle.fixed.specs.Lists.{at, tabulate, L_sum};
+ghost use Rattle.gain_table.specs.Rows.{pitches};
 ghost use Rattle.gain_choice.specs.Rows.{term, distances, nearest, within_limit, nearest_row};
 
-const ROWS: usize = 128;
+use gain_table::ROWS;
 
 // The index of the nearest row whose pitch gain is within the limit, 0 where there is none.
 #[tactic(auto, unfolding(crate::specs::Rows::nearest_row))]
 pub fn nearest_row(weights: &[i32; 5], gcode0: i16, limit_q14: i16) -> u16
     ensures { result ≡ nearest_row weights.now gcode0 limit_q14 }
 {
-    nearest(&distances(weights, gcode0), limit_q14) as u16
+    let pitches = gain_table::pitches();
+    let far = distances(weights, &pitches, gcode0);
+    nearest(&far, &pitches, limit_q14) as u16
 }
 
-fn distances(weights: &[i32; 5], gcode0: i16) -> [i32; 128]
+// The pitch gains are made once and lent: made anew for the limit, the search takes a twelfth longer.
+fn distances(weights: &[i32; 5], pitches_q14: &[i16; 128], gcode0: i16) -> [i32; 128]
+    requires { pitches_q14.now ≡ pitches }
     ensures { result ≡ distances weights.now gcode0 }
 {
-    let pitches = gain_table::pitches();
     let codes = fractions(&gain_table::corrections(), &[gcode0; ROWS]);
-    let pitch_squares = fractions(&pitches, &pitches);
+    let pitch_squares = fractions(pitches_q14, pitches_q14);
     let code_squares = fractions(&codes, &codes);
-    let both = fractions(&codes, &pitches);
-    let mut far = [0i32; ROWS];
-    for i in 0..ROWS {
-        far[i] = distance(
+    let both = fractions(&codes, pitches_q14);
+    std::array::from_fn(|i| {
+        distance(
             weights,
             &[
                 pitch_squares[i],
-                pitches[i],
+                pitches_q14[i],
                 code_squares[i],
                 codes[i],
                 both[i],
             ],
-        );
-    }
-    far
+        )
+    })
 }
 
 // Q15 products, row by row. Stored as words, they keep the compiler at products of words.
@@ -79,22 +81,20 @@ fn weighted(weight: i32, product: i16) -> i32
 
 // The lowest of the rows within the limit that are nearest. Row 0 is within both limits of the stage, and is answered where no row is.
 // Three passes, in each of which the compiler takes four rows at once.
-fn nearest(far: &[i32; 128], limit_q14: i16) -> usize
+fn nearest(far: &[i32; 128], pitches_q14: &[i16; 128], limit_q14: i16) -> usize
+    requires { pitches_q14.now ≡ pitches }
     ensures { (result ≡ nearest (within_limit limit_q14) (at far.now) 127) × (result ≤ 127) }
 {
-    let distances = allowed(far, limit_q14);
+    let distances = allowed(far, pitches_q14, limit_q14);
     first(&distances, least(&distances))
 }
 
 // The distances, but the greatest long for a row past the limit: it is below no distance, so no limit is needed any more. Row 0 keeps its own.
-fn allowed(far: &[i32; 128], limit_q14: i16) -> [i32; 128]
+fn allowed(far: &[i32; 128], pitches_q14: &[i16; 128], limit_q14: i16) -> [i32; 128]
+    requires { pitches_q14.now ≡ pitches }
     ensures { nearest (λ k. true) (at result) 127 ≡ nearest (within_limit limit_q14) (at far.now) 127 }
 {
-    let pitches = gain_table::pitches();
-    let mut distances = [0i32; ROWS];
-    for i in 0..ROWS {
-        distances[i] = within(far[i], pitches[i], limit_q14);
-    }
+    let mut distances = std::array::from_fn(|i| within(far[i], pitches_q14[i], limit_q14));
     distances[0] = far[0];
     distances
 }
@@ -111,11 +111,9 @@ fn within(distance: i32, pitch: i16, limit_q14: i16) -> i32
 fn least(distances: &[i32; 128]) -> i32
     ensures { result ≡ at distances.now (nearest (λ k. true) (at distances.now) 127) }
 {
-    let mut least = distances[0];
-    for distance in distances {
-        least = least.min(*distance);
-    }
-    least
+    distances
+        .iter()
+        .fold(distances[0], |least, distance| least.min(*distance))
 }
 
 // The first place of the least distance. There is one.

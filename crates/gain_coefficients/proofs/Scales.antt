@@ -2,32 +2,34 @@
 use mathlib.Core.Path.{◌≡◌, refl, ◌∙◌}
 use mathlib.Core.Bool.{Bool, true, false, cond}
 use mathlib.Core.List.{List, [], ◌∷◌, map}
-use Prim.Native.Nat.{ℕ, zero, suc, ◌<◌}
+use Prim.Native.Nat.{ℕ, suc}
 use native.Mathlib.Omega.{arith}
 use lib.IntN.{ℤ, pos}
-use lib.ListN.{length, get_or, take}
+use lib.ListN.{length, get_or}
 use lib.Signed.{lt_z}
+use Rattle.std.specs.List.{fold}
 use Rattle.std.proofs.lemmas.List.{length-map, get_or-map}
 use Rattle.fixed.specs.Operators.{add}
 use Rattle.fixed.specs.Lists.{tabulate}
 use Rattle.fixed.proofs.Lists.{filled_all}
-use Rattle.gain_coefficients.specs.declared.Coefficient.{Coefficient}
+use Rattle.gain_pitch.specs.declared.ScaledWord.{ScaledWord}
 use Rattle.gain_coefficients.specs.Energies.{e_max, levelled, on_one_scale}
 
--- one coefficient more
-pub e_max_more : (m : ℤ) (cs : List Coefficient) (i : ℕ) (d : Coefficient) → i < length cs →
-    e_max m (take (suc i) cs) ≡ cond (lt_z (e_max m (take i cs)) (get_or cs i d).exponent) (get_or cs i d).exponent (e_max m (take i cs))
+-- the greater of an exponent held and that of the next coefficient
+abbrev pub greater : ℤ → ScaledWord → ℤ
+greater m c = cond (lt_z m c.exponent) c.exponent m
+
+pub folded : (cs : List ScaledWord) (m : ℤ) → fold greater m cs ≡ e_max m cs
 unfolding e_max
-e_max_more m [] i d h = absurd (omega arith)
-e_max_more m (c ∷ cs) zero d h = refl
-e_max_more m (c ∷ cs) (suc i) d h = e_max_more (cond (lt_z m c.exponent) c.exponent m) cs i d (omega arith)
+folded [] m = refl
+folded (c ∷ cs) m = folded cs (greater m c)
 
 -- the first counts once
 same : {A : Type 0} (t : Bool) (a : A) → cond t a a ≡ a
 same true a = refl
 same false a = refl
 
-pub scaled : (cs : List Coefficient) (n : ℕ) (d : Coefficient) → length cs ≡ suc n →
+pub scaled : (cs : List ScaledWord) (n : ℕ) (d : ScaledWord) → length cs ≡ suc n →
     on_one_scale cs ≡ tabulate (λ k. levelled (add (e_max (get_or cs 0 d).exponent cs) (pos 1)) (get_or cs k d)) (suc n)
 unfolding on_one_scale e_max
 scaled [] n d e = absurd (omega arith)

@@ -2,17 +2,23 @@
 #![tactic(auto)]
 
 ghost use Rattle.std.specs.Prelude.{◌≡◌};
-ghost use Rattle.gain_coefficients.specs.Energies.{cut, negated, raised, yy_coefficient, xy_coefficient, levelled, on_one_scale, coefficients, counted_coefficients};
+ghost use Rattle.gain_coefficients.specs.Energies.{cut, negated, raised, xy_coefficient, levelled, on_one_scale, coefficients, counted_coefficients};
 
-use gain_pitch::PitchGain;
+use gain_pitch::{PitchGain, ScaledWord};
 
-// The five coefficients, and how often the three sums of the innovation were clipped: its energy, and those with the target and with the adaptive words.
+// At how many of their 40 terms the three sums of the innovation were clipped: its energy, and its products with the target and with the adaptive words.
+#[derive(Clone, Copy, Debug, PartialEq, Eq)]
+pub struct InnovationClips {
+    pub energy: u8,
+    pub target: u8,
+    pub adaptive: u8,
+}
+
+// The five coefficients, and how often the sums of three were clipped.
 #[derive(Clone, Copy, Debug, PartialEq, Eq)]
 pub struct CountedCoefficients {
     pub list: [i32; 5],
-    pub innovation_clips: u8,
-    pub target_innovation_clips: u8,
-    pub adaptive_innovation_clips: u8,
+    pub clips: InnovationClips,
 }
 
 // Of target, adaptive words and the innovation's eighths, all on one scale.
@@ -29,17 +35,19 @@ pub fn counted_coefficients(
     let xz = gain_sums::dot(target, innovation);
     let yz = gain_sums::dot(adaptive, innovation);
     let list = on_one_scale(&[
-        adaptive_energy(gain).raised(-13),
-        adaptive_correlation(gain).raised(-14),
-        Coefficient::cut(zz.value, -3).raised(fixed::add(15, fixed::shift(code, 1))),
-        Coefficient::cut(xz.value, 7).negated().raised(code),
-        Coefficient::cut(yz.value, 7).raised(fixed::add(1, code)),
+        raised(gain.yy, -13),
+        raised(adaptive_correlation(gain), -14),
+        raised(cut(zz.value, -3), fixed::add(15, fixed::shift(code, 1))),
+        raised(negated(cut(xz.value, 7)), code),
+        raised(cut(yz.value, 7), fixed::add(1, code)),
     ]);
     CountedCoefficients {
         list,
-        innovation_clips: zz.clips,
-        target_innovation_clips: xz.clips,
-        adaptive_innovation_clips: yz.clips,
+        clips: InnovationClips {
+            energy: zz.clips,
+            target: xz.clips,
+            adaptive: yz.clips,
+        },
     }
 }
 
@@ -57,79 +65,60 @@ pub fn coefficients(
     counted_coefficients(target, adaptive, innovation, gain, code).list
 }
 
-#[derive(Clone, Copy)]
-struct Coefficient {
-    fraction: i16,
-    exponent: i16,
-}
-
-impl Coefficient {
-    // Only shifted: no rounding.
-    #[tactic(auto, unfolding(crate::specs::Energies::cut))]
-    fn cut(sum: i32, bias: i16) -> Coefficient
-        ensures { result ≡ cut sum bias }
-    {
-        let places = fixed::normalize(sum);
-        Coefficient {
-            fraction: fixed::high(fixed::shift(sum, places)),
-            exponent: fixed::sub(bias, places),
-        }
-    }
-
-    fn negated(self) -> Coefficient
-        ensures { result ≡ negated self }
-    {
-        Coefficient {
-            fraction: fixed::negate(self.fraction),
-            exponent: self.exponent,
-        }
-    }
-
-    fn raised(self, scale: i16) -> Coefficient
-        ensures { result ≡ raised self scale }
-    {
-        Coefficient {
-            fraction: self.fraction,
-            exponent: fixed::add(self.exponent, scale),
-        }
-    }
-
-    #[tactic(auto, unfolding(crate::specs::Energies::levelled))]
-    fn levelled(self, top: i16) -> i32
-        ensures { result ≡ levelled top self }
-    {
-        fixed::shift(
-            fixed::deposit_high(self.fraction),
-            fixed::sub(self.exponent, top),
-        )
-    }
-}
-
-fn adaptive_energy(gain: PitchGain) -> Coefficient
-    ensures { result ≡ yy_coefficient gain }
+// Only shifted: no rounding.
+#[tactic(auto, unfolding(crate::specs::Energies::cut))]
+fn cut(sum: i32, bias: i16) -> ScaledWord
+    ensures { result ≡ cut sum bias }
 {
-    Coefficient {
-        fraction: gain.yy,
-        exponent: gain.yy_exponent,
+    let places = fixed::normalize(sum);
+    ScaledWord {
+        word: fixed::high(fixed::shift(sum, places)),
+        exponent: fixed::sub(bias, places),
     }
 }
 
-fn adaptive_correlation(gain: PitchGain) -> Coefficient
+fn negated(coefficient: ScaledWord) -> ScaledWord
+    ensures { result ≡ negated coefficient }
+{
+    ScaledWord {
+        word: fixed::negate(coefficient.word),
+        exponent: coefficient.exponent,
+    }
+}
+
+fn raised(coefficient: ScaledWord, scale: i16) -> ScaledWord
+    ensures { result ≡ raised coefficient scale }
+{
+    ScaledWord {
+        word: coefficient.word,
+        exponent: fixed::add(coefficient.exponent, scale),
+    }
+}
+
+#[tactic(auto, unfolding(crate::specs::Energies::levelled))]
+fn levelled(coefficient: ScaledWord, top: i16) -> i32
+    ensures { result ≡ levelled top coefficient }
+{
+    fixed::shift(
+        fixed::deposit_high(coefficient.word),
+        fixed::sub(coefficient.exponent, top),
+    )
+}
+
+// Minus twice the correlation.
+fn adaptive_correlation(gain: PitchGain) -> ScaledWord
     ensures { result ≡ xy_coefficient gain }
 {
-    Coefficient {
-        fraction: fixed::negate(gain.xy),
-        exponent: fixed::add(gain.xy_exponent, 1),
-    }
+    raised(negated(gain.xy), 1)
 }
 
-fn on_one_scale(list: &[Coefficient; 5]) -> [i32; 5]
+fn on_one_scale(list: &[ScaledWord; 5]) -> [i32; 5]
     ensures { result ≡ on_one_scale list.now }
 {
-    let mut greatest = list[0].exponent;
-    for coefficient in list {
-        greatest = coefficient.exponent.max(greatest);
-    }
+    let greatest = list.iter().fold(
+        list[0].exponent,
+        |greatest, coefficient| coefficient.exponent.max(greatest),
+    );
     let top = fixed::add(greatest, 1);
-    std::array::from_fn(|i| list[i].levelled(top))
+    std::array::from_fn(|i| levelled(list[i], top))
 }

@@ -44,12 +44,9 @@ unfoldable pub coefficients : ScaledWord → ScaledWord → ℕ → ℕ → Pitc
 coefficients xy yy energy_clips target_clips =
     record {
       gain_q14 = gain xy yy;
-      yy = yy.word;
-      yy_exponent = sub (pos 15) yy.exponent;
-      xy = xy.word;
-      xy_exponent = sub (pos 15) xy.exponent;
-      energy_clips = energy_clips;
-      target_clips = target_clips;
+      yy = record { word = yy.word; exponent = sub (pos 15) yy.exponent };
+      xy = record { word = xy.word; exponent = sub (pos 15) xy.exponent };
+      clips = record { energy = energy_clips; target = target_clips };
     }
 
 -- 02, request 09: 'the counts of its first energy sum and first target sum', not of a sum that is made anew with quarters

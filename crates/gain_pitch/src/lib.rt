@@ -1,7 +1,8 @@
 // The pitch gain, TS 26.073 G_pitch, from gain/quantization.rs: the gain, and the normalised energy and correlation from which the gain row is chosen.
 #![tactic(auto)]
 
-ghost use Rattle.std.specs.Prelude.{◌≡◌};
+ghost use Rattle.std.specs.Prelude.{◌≡◌, pos};
+ghost use Rattle.fixed.specs.Operators.{sub};
 ghost use Rattle.gain_sums.specs.Sums.{counted_sum};
 ghost use Rattle.gain_pitch.specs.Gains.{normalized, energy, correlation, gain, G_pitch, pitch_gain};
 ghost use Rattle.refusal.specs.Refused.{told};
@@ -15,16 +16,27 @@ const MIN_POSITIVE_CORRELATION: i16 = 4;
 
 const CORRELATION_EXPONENT: i16 = 15;
 
-// The standard's g_coeff beside the gain: each number is a word by two to its exponent. The counts are those of the first energy sum and the first target sum.
+// A word and its exponent, the standard's frac and exp.
+#[derive(Clone, Copy, Debug, PartialEq, Eq)]
+pub struct ScaledWord {
+    pub word: i16,
+    pub exponent: i16,
+}
+
+// At how many of their 40 terms the first energy sum and the first target sum were clipped: not those that are made anew with quarters.
+#[derive(Clone, Copy, Debug, PartialEq, Eq)]
+pub struct PitchClips {
+    pub energy: u8,
+    pub target: u8,
+}
+
+// The standard's g_coeff beside the gain: each number is a word by two to its exponent.
 #[derive(Clone, Copy, Debug, PartialEq, Eq)]
 pub struct PitchGain {
     pub gain_q14: i16,
-    pub yy: i16,
-    pub yy_exponent: i16,
-    pub xy: i16,
-    pub xy_exponent: i16,
-    pub energy_clips: u8,
-    pub target_clips: u8,
+    pub yy: ScaledWord,
+    pub xy: ScaledWord,
+    pub clips: PitchClips,
 }
 
 #[tactic(auto, unfolding(crate::specs::Gains::pitch_gain))]
@@ -46,20 +58,23 @@ pub fn g_pitch(target: &[i16; 40], adaptive: &[i16; 40]) -> PitchGain
     let xy = correlation(target, adaptive, first_product);
     PitchGain {
         gain_q14: gain(xy, yy),
-        yy: yy.word,
-        yy_exponent: fixed::sub(CORRELATION_EXPONENT, yy.exponent),
-        xy: xy.word,
-        xy_exponent: fixed::sub(CORRELATION_EXPONENT, xy.exponent),
-        energy_clips: first_energy.clips,
-        target_clips: first_product.clips,
+        yy: coefficient(yy),
+        xy: coefficient(xy),
+        clips: PitchClips {
+            energy: first_energy.clips,
+            target: first_product.clips,
+        },
     }
 }
 
-// A long with its highest bit brought up, as a word, and by how many places, less those that a sum made anew takes off.
-#[derive(Clone, Copy)]
-struct ScaledWord {
-    word: i16,
-    exponent: i16,
+// As the standard's g_coeff has it.
+fn coefficient(found: ScaledWord) -> ScaledWord
+    ensures { result ≡ record { word = found.word; exponent = sub (pos 15) found.exponent } }
+{
+    ScaledWord {
+        word: found.word,
+        exponent: fixed::sub(CORRELATION_EXPONENT, found.exponent),
+    }
 }
 
 #[tactic(auto, unfolding(crate::specs::Gains::gain, crate::specs::Gains::quotient))]
@@ -101,6 +116,7 @@ fn correlation(target: &[i16; 40], adaptive: &[i16; 40], first: Counted) -> Scal
     normalized(first.value, 0)
 }
 
+// A long normalised, as a word, and by how many places, less those that a sum made anew takes off.
 #[tactic(auto, unfolding(crate::specs::Gains::normalized))]
 fn normalized(sum: i32, lowered: i16) -> ScaledWord
     ensures { result ≡ normalized sum lowered }

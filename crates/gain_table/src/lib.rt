@@ -5,7 +5,7 @@
 ghost use Rattle.std.specs.Prelude.{◌≡◌, ◌<◌};
 ghost use Rattle.gain_table.specs.Rows.{table, row, column, pitches, corrections};
 
-const ROWS: usize = 128;
+pub const ROWS: usize = 128;
 
 const HALF: usize = 64;
 

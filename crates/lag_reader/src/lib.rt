@@ -9,7 +9,7 @@ ghost use Rattle.pitch.specs.Windows.{handset};
 ghost use Rattle.pitch.specs.Indexes.{lag_of};
 ghost use Rattle.lag_reader.specs.Readers.{fresh_reader, start_used, reading_checks, read};
 
-use pitch::{PitchLag, Subframe};
+use pitch::{PitchLag, Subframe, Window};
 use refusal::{Refusal, Step};
 
 const MAX_DELTA_INDEX: u8 = 31;
@@ -83,5 +83,5 @@ fn start_used(subframe: Subframe, previous: u16) -> u16
     if subframe.absolute() {
         return 0;
     }
-    pitch::relative_start(previous)
+    Window::relative(previous).start
 }

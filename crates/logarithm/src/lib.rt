@@ -1,7 +1,8 @@
 // TS 26.073 Log2 and Pow2, from logarithm.rs: a table of 33 entries and a straight line between two of them.
 #![tactic(auto)]
 
-ghost use Rattle.std.specs.Prelude.{◌≡◌, ◌<◌, ◌≤◌, ◌^◌, pos};
+ghost use Rattle.std.specs.Prelude.{◌≡◌, ◌+◌, ◌*◌, ◌<◌, ◌≤◌, ◌^◌, pos};
+ghost use Rattle.fixed.specs.Line.{table_line};
 ghost use Rattle.logarithm.specs.Logarithms.{Log2, log2_of};
 ghost use Rattle.logarithm.specs.Powers.{shr_r, power, Pow2};
 ghost use Rattle.refusal.specs.Refused.{told};
@@ -41,16 +42,14 @@ pub fn log2(value: i32) -> Logarithm
     positive_log2(value.unsigned_abs())
 }
 
-#[tactic(auto, using(fixed::proofs::Norms::one_zero, fixed::proofs::Norms::norm_is, fixed::proofs::Norms::normal_range, fixed::proofs::Norms::normal_is), unfolding(crate::specs::Logarithms::log2_of, fixed::specs::Line::table_line, crate::specs::Logarithms::log2_table))]
+#[tactic(auto, using(fixed::proofs::Norms::one_zero, fixed::proofs::Norms::norm_is, fixed::proofs::Norms::normal_range, fixed::proofs::Norms::normal_is), unfolding(crate::specs::Logarithms::log2_of, crate::specs::Logarithms::log2_table))]
 fn positive_log2(u: u32) -> Logarithm
     requires { (0 < u) × (u < 2 ^ 31) }
     ensures { result ≡ log2_of u }
 {
-    let table = LOG2_TABLE;
     let shift = u.leading_zeros() - 1;
     let m = u << shift;
-    let i = (m / 33554432 - 32) as usize;
-    let line = compound::interpolated(table[i], table[i + 1], m);
+    let line = table_line(&LOG2_TABLE, 32, m);
     Logarithm {
         exponent: (30 - shift) as u8,
         fraction_q15: (line / 65536) as u16,
@@ -75,10 +74,8 @@ fn bounded_pow2(exponent: u8, fraction_q15: u16) -> i32
     requires { (exponent ≤ 30) × (fraction_q15 < 32768) }
     ensures { result ≡ pos (power exponent fraction_q15) }
 {
-    let table = POW2_TABLE;
     let m = fraction_q15 as u32 * 32768;
-    let i = (m / 33554432) as usize;
-    let line = compound::interpolated(table[i], table[i + 1], m);
+    let line = table_line(&POW2_TABLE, 0, m);
     rounded_shift(line, 30 - exponent as u32) as i32
 }
 
@@ -90,4 +87,14 @@ fn rounded_shift(v: u32, n: u32) -> u32
         return v;
     }
     (v >> n) + (v >> (n - 1)) % 2
+}
+
+// The line of a table at `m`: bits 25 and up of `m`, less those of the least, choose the entry.
+#[tactic(auto, unfolding(fixed::specs::Line::table_line))]
+fn table_line(table: &[u16; 33], least: u32, m: u32) -> u32
+    requires { (least ≤ 32) × (least * 33554432 ≤ m) × (m < (least + 32) * 33554432) }
+    ensures { result ≡ table_line table.now least m }
+{
+    let i = (m / 33554432 - least) as usize;
+    compound::interpolated(table[i], table[i + 1], m)
 }

@@ -1,8 +1,9 @@
 -- The answers of the gain stage as the structs that cross to Rust and C.
 use Rattle.std.specs.Prelude.{false, pos}
-use Rattle.refusal.specs.Refused.{Told, values, refused, sign_magnitude}
+use Rattle.refusal.specs.Refused.{Told, values, refused}
 use Rattle.gain_pitch.specs.declared.PitchGain.{PitchGain}
 use Rattle.gain.specs.declared.QuantizedGain.{QuantizedGain}
+use Rattle.mr74.specs.Details.{sign_magnitude}
 use Rattle.mr74.specs.declared.gain_row.PitchGainAnswer.{PitchGainAnswer}
 use Rattle.mr74.specs.declared.gain_row.GainAnswer.{GainAnswer}
 
@@ -13,12 +14,12 @@ pitch_gain_answer (values g) =
       number = 0;
       magnitude = 0;
       gain_q14 = g.gain_q14;
-      yy = g.yy;
-      yy_exponent = g.yy_exponent;
-      xy = g.xy;
-      xy_exponent = g.xy_exponent;
-      energy_clips = g.energy_clips;
-      target_clips = g.target_clips;
+      yy = g.yy.word;
+      yy_exponent = g.yy.exponent;
+      xy = g.xy.word;
+      xy_exponent = g.xy.exponent;
+      energy_clips = g.clips.energy;
+      target_clips = g.clips.target;
     }
 pitch_gain_answer (refused n d) =
     record {
@@ -44,11 +45,11 @@ gain_answer (values q) =
       pitch_q14 = q.row.pitch_q14;
       correction_q12 = q.row.correction_q12;
       energy_q10 = q.row.energy_q10;
-      energy_clips = q.energy_clips;
-      target_clips = q.target_clips;
-      innovation_clips = q.innovation_clips;
-      target_innovation_clips = q.target_innovation_clips;
-      adaptive_innovation_clips = q.adaptive_innovation_clips;
+      energy_clips = q.pitch_clips.energy;
+      target_clips = q.pitch_clips.target;
+      innovation_clips = q.innovation_clips.energy;
+      target_innovation_clips = q.innovation_clips.target;
+      adaptive_innovation_clips = q.innovation_clips.adaptive;
     }
 gain_answer (refused n d) =
     record {

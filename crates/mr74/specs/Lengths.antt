@@ -1,5 +1,6 @@
 -- An answer that refuses by number 1 alone, as the struct that crosses to Rust and C.
-use Rattle.refusal.specs.Refused.{Told, values, refused, sign_magnitude}
+use Rattle.refusal.specs.Refused.{Told, values, refused}
+use Rattle.mr74.specs.Details.{sign_magnitude}
 use Rattle.mr74.specs.declared.filtering.LengthAnswer.{LengthAnswer}
 
 -- number 0, or a refusal's number and detail

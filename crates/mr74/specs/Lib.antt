@@ -1,4 +1,5 @@
 -- What the contracts of `mr74` cite.
+pub mod Details
 pub mod Lengths
 pub mod OpenLoops
 pub mod Pitches
@@ -6,4 +7,5 @@ pub mod Pulses
 pub mod Gains
 pub mod Powers
 pub mod Records
+pub mod Fields
 pub mod Steps

@@ -1,9 +1,10 @@
 -- A detector as its 143 old words, and its answer as the struct that crosses to Rust and C.
 use Rattle.std.specs.Prelude.{List, [], ◌∷◌, ℕ, ℤ}
-use Rattle.refusal.specs.Refused.{Told, values, refused, sign_magnitude}
+use Rattle.refusal.specs.Refused.{Told, values, refused}
 use Rattle.refusal.specs.Checks.{Outcome, unless_refused, length_is}
 use Rattle.open_loop.specs.declared.Detector.{Detector}
 use Rattle.open_loop.specs.Detectors.{Pitch_ol}
+use Rattle.mr74.specs.Details.{sign_magnitude}
 use Rattle.mr74.specs.declared.open_loop_lag.OpenLoopAnswer.{OpenLoopAnswer}
 
 -- number 0 and the lag, or a refusal's number and detail and 0

@@ -1,11 +1,12 @@
 -- The answers of the closed loop as the struct that crosses to Rust and C.
 use Rattle.std.specs.Prelude.{ℕ, ℤ, pos}
-use Rattle.refusal.specs.Refused.{Told, values, refused, put, sign_magnitude}
+use Rattle.refusal.specs.Refused.{Told, values, refused, put}
 use Rattle.refusal.specs.Checks.{Outcome}
 use Rattle.pitch.specs.declared.PitchLag.{PitchLag}
 use Rattle.pitch.specs.Kinds.{thirds}
 use Rattle.pitch_search.specs.declared.SearchedPitch.{SearchedPitch}
 use Rattle.pitch_state.specs.declared.PitchState.{PitchState}
+use Rattle.mr74.specs.Details.{sign_magnitude}
 use Rattle.mr74.specs.declared.closed_loop.PitchAnswer.{PitchAnswer}
 
 -- number 0 and the values, then the state after

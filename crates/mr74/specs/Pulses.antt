@@ -1,7 +1,8 @@
 -- The answers of the pulse stage as the structs that cross to Rust and C.
-use Rattle.refusal.specs.Refused.{Told, values, refused, sign_magnitude}
+use Rattle.refusal.specs.Refused.{Told, values, refused}
 use Rattle.codebook.specs.declared.Places.{Places}
 use Rattle.codebook_code.specs.declared.PulseWords.{PulseWords}
+use Rattle.mr74.specs.Details.{sign_magnitude}
 use Rattle.mr74.specs.declared.pulses.PulsesAnswer.{PulsesAnswer}
 use Rattle.mr74.specs.declared.pulses.PlacesAnswer.{PlacesAnswer}
 

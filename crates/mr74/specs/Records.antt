@@ -1,7 +1,8 @@
 -- What stands at a place of a feed, as the struct that crosses to Rust and C.
 use Rattle.std.specs.Prelude.{ℕ, ◌+◌, ◌-◌}
-use Rattle.refusal.specs.Refused.{Told, values, refused, sign_magnitude}
+use Rattle.refusal.specs.Refused.{Told, values, refused}
 use Rattle.feed.specs.Records.{Standing, nothing, whole}
+use Rattle.mr74.specs.Details.{sign_magnitude}
 use Rattle.mr74.specs.declared.records.RecordAnswer.{RecordAnswer}
 
 -- number 0, the kind, or 7 where the feed ends, and its body, or a refusal's number and detail and zeros

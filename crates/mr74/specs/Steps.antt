@@ -8,11 +8,10 @@ use Rattle.pitch_state.specs.declared.PitchState.{PitchState}
 use Rattle.pitch_state.specs.States.{searcher_numbers, reader_numbers, searcher_of, reader_of}
 use Rattle.pitch_state.specs.Calls.{known_subframes}
 use Rattle.feed.specs.Records.{Standing, nothing, whole, header, body}
-use Rattle.selection_answers.specs.declared.Fields.{Fields}
-use Rattle.selection_answers.specs.Fields.{fields_of}
 use Rattle.selection_answers.specs.Lines.{Line}
 use Rattle.selection.specs.Steps.{Step, selection_of, step_lent}
 use Rattle.mr74.specs.declared.steps.StepAnswer.{StepAnswer}
+use Rattle.mr74.specs.Fields.{Fields, fields_of}
 
 -- an answer in numbers, with searcher and reader after it
 abbrev pub step_answer : Fields → PitchState → PitchState → StepAnswer
@@ -57,6 +56,11 @@ abbrev pub stepped : Told Line → Search → Reader → PitchState → PitchSta
 stepped a s r searcher reader =
     let f = fields_of a in
     step_answer f (state_after 2 f (searcher_numbers s) searcher) (state_after 6 f (reader_numbers r) reader)
+
+-- a step that is answered, or the refusal of a check before it
+abbrev pub told_step_answer : Told StepAnswer → PitchState → PitchState → StepAnswer
+told_step_answer (values a) searcher reader = a
+told_step_answer (refused n d) searcher reader = step_answer (fields_of (refused n d)) searcher reader
 
 -- ---- the step: what is answered, and the two lent lists after it
 pub record StepInNumbers : Type 0 where

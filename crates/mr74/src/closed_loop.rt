@@ -7,6 +7,7 @@ ghost use Rattle.pitch_state.specs.Calls.{search_in_numbers, read_in_numbers};
 ghost use Rattle.mr74.specs.Lengths.{length_answer};
 ghost use Rattle.mr74.specs.Pitches.{told_pitch, pitch_answer, reading_answer};
 
+use crate::details::Detail;
 use crate::filtering::{LengthAnswer, length_answer};
 use pitch_search::SearchedPitch;
 use pitch_state::PitchState;
@@ -14,7 +15,7 @@ use refusal::Refusal;
 
 // The answer, and the state after it.
 #[repr(C)]
-#[derive(Clone, Copy)]
+#[derive(Clone, Copy, Default)]
 pub struct PitchAnswer {
     pub number: u8,
     pub magnitude: u64,
@@ -84,28 +85,24 @@ pub extern "C" fn mr74_convolve(
 fn pitch_answer(answer: Result<SearchedPitch, Refusal>, after: PitchState) -> PitchAnswer
     ensures { result ≡ told_pitch (told answer) after }
 {
+    let state = PitchAnswer {
+        previous_samples: after.samples,
+        previous_fraction: after.fraction,
+        next: after.next,
+        start: after.start,
+        ..Default::default()
+    };
     match answer {
         Ok(pitch) => PitchAnswer {
-            number: 0,
-            magnitude: 0,
             index: pitch.index,
             samples: pitch.lag.samples,
             fraction: i16::from(pitch.lag.fraction),
-            previous_samples: after.samples,
-            previous_fraction: after.fraction,
-            next: after.next,
-            start: after.start,
+            ..state
         },
         Err(refusal) => PitchAnswer {
             number: refusal.number(),
-            magnitude: refusal.detail().magnitude,
-            index: 0,
-            samples: 0,
-            fraction: 0,
-            previous_samples: after.samples,
-            previous_fraction: after.fraction,
-            next: after.next,
-            start: after.start,
+            magnitude: Detail::from(refusal).magnitude,
+            ..state
         },
     }
 }

@@ -4,10 +4,11 @@ ghost use Rattle.refusal.specs.Refused.{told};
 ghost use Rattle.encoder_filtering.specs.Subframes.{lists, residual, prepare};
 ghost use Rattle.mr74.specs.Lengths.{length_answer};
 
+use crate::details::Detail;
 use refusal::Refusal;
 
 #[repr(C)]
-#[derive(Clone, Copy)]
+#[derive(Clone, Copy, Default)]
 pub struct LengthAnswer {
     pub number: u8,
     pub magnitude: u64,
@@ -58,13 +59,10 @@ pub(crate) fn length_answer(answer: Result<(), Refusal>) -> LengthAnswer
     ensures { result ≡ length_answer (told answer) }
 {
     match answer {
-        Ok(()) => LengthAnswer {
-            number: 0,
-            magnitude: 0,
-        },
+        Ok(()) => LengthAnswer::default(),
         Err(refusal) => LengthAnswer {
             number: refusal.number(),
-            magnitude: refusal.detail().magnitude,
+            magnitude: Detail::from(refusal).magnitude,
         },
     }
 }

@@ -5,12 +5,13 @@ ghost use Rattle.gain_pitch.specs.Gains.{pitch_gain};
 ghost use Rattle.gain.specs.Rows.{quantize};
 ghost use Rattle.mr74.specs.Gains.{pitch_gain_answer, gain_answer};
 
+use crate::details::Detail;
 use gain::QuantizedGain;
 use gain_pitch::PitchGain;
 use refusal::Refusal;
 
 #[repr(C)]
-#[derive(Clone, Copy)]
+#[derive(Clone, Copy, Default)]
 pub struct PitchGainAnswer {
     pub number: u8,
     pub magnitude: u64,
@@ -36,35 +37,25 @@ fn pitch_gain_answer(answer: Result<PitchGain, Refusal>) -> PitchGainAnswer
 {
     match answer {
         Ok(gain) => PitchGainAnswer {
-            number: 0,
-            magnitude: 0,
             gain_q14: gain.gain_q14,
-            yy: gain.yy,
-            yy_exponent: gain.yy_exponent,
-            xy: gain.xy,
-            xy_exponent: gain.xy_exponent,
-            energy_clips: gain.energy_clips,
-            target_clips: gain.target_clips,
+            yy: gain.yy.word,
+            yy_exponent: gain.yy.exponent,
+            xy: gain.xy.word,
+            xy_exponent: gain.xy.exponent,
+            energy_clips: gain.clips.energy,
+            target_clips: gain.clips.target,
+            ..Default::default()
         },
-        Err(refusal) => {
-            let detail = refusal.detail();
-            PitchGainAnswer {
-                number: refusal.number(),
-                magnitude: detail.magnitude,
-                gain_q14: 0,
-                yy: 0,
-                yy_exponent: 0,
-                xy: 0,
-                xy_exponent: 0,
-                energy_clips: 0,
-                target_clips: 0,
-            }
-        }
+        Err(refusal) => PitchGainAnswer {
+            number: refusal.number(),
+            magnitude: Detail::from(refusal).magnitude,
+            ..Default::default()
+        },
     }
 }
 
 #[repr(C)]
-#[derive(Clone, Copy)]
+#[derive(Clone, Copy, Default)]
 pub struct GainAnswer {
     pub number: u8,
     pub negative: bool,
@@ -106,38 +97,25 @@ fn gain_answer(answer: Result<QuantizedGain, Refusal>) -> GainAnswer
     ensures { result ≡ gain_answer (told answer) }
 {
     match answer {
-        Ok(chosen) => {
-            let row = chosen.row;
-            GainAnswer {
-                number: 0,
-                negative: false,
-                magnitude: 0,
-                index: chosen.index,
-                pitch_q14: row.pitch_q14,
-                correction_q12: row.correction_q12,
-                energy_q10: row.energy_q10,
-                energy_clips: chosen.energy_clips,
-                target_clips: chosen.target_clips,
-                innovation_clips: chosen.innovation_clips,
-                target_innovation_clips: chosen.target_innovation_clips,
-                adaptive_innovation_clips: chosen.adaptive_innovation_clips,
-            }
-        }
+        Ok(chosen) => GainAnswer {
+            index: chosen.index,
+            pitch_q14: chosen.row.pitch_q14,
+            correction_q12: chosen.row.correction_q12,
+            energy_q10: chosen.row.energy_q10,
+            energy_clips: chosen.pitch_clips.energy,
+            target_clips: chosen.pitch_clips.target,
+            innovation_clips: chosen.innovation_clips.energy,
+            target_innovation_clips: chosen.innovation_clips.target,
+            adaptive_innovation_clips: chosen.innovation_clips.adaptive,
+            ..Default::default()
+        },
         Err(refusal) => {
-            let detail = refusal.detail();
+            let detail = Detail::from(refusal);
             GainAnswer {
                 number: refusal.number(),
                 negative: detail.negative,
                 magnitude: detail.magnitude,
-                index: 0,
-                pitch_q14: 0,
-                correction_q12: 0,
-                energy_q10: 0,
-                energy_clips: 0,
-                target_clips: 0,
-                innovation_clips: 0,
-                target_innovation_clips: 0,
-                adaptive_innovation_clips: 0,
+                ..Default::default()
             }
         }
     }

@@ -2,6 +2,7 @@
 #![tactic(auto)]
 
 pub mod closed_loop;
+mod details;
 pub mod filtering;
 pub mod gain_row;
 pub mod open_loop_lag;

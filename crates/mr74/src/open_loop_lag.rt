@@ -3,12 +3,13 @@ ghost use Rattle.std.specs.Prelude.{◌≡◌};
 ghost use Rattle.pitch.specs.Kinds.{told_lag, try_lag};
 ghost use Rattle.mr74.specs.OpenLoops.{lag_answer, open_loop};
 
+use crate::details::Detail;
 use open_loop::Detector;
 use pitch::OpenLoopLag;
 use refusal::Refusal;
 
 #[repr(C)]
-#[derive(Clone, Copy)]
+#[derive(Clone, Copy, Default)]
 pub struct OpenLoopAnswer {
     pub number: u8,
     pub magnitude: u64,
@@ -50,17 +51,13 @@ fn lag_answer(lag: Result<OpenLoopLag, Refusal>) -> OpenLoopAnswer
 {
     match lag {
         Ok(found) => OpenLoopAnswer {
-            number: 0,
-            magnitude: 0,
             lag: found.samples(),
+            ..Default::default()
         },
-        Err(refusal) => {
-            let detail = refusal.detail();
-            OpenLoopAnswer {
-                number: refusal.number(),
-                magnitude: detail.magnitude,
-                lag: 0,
-            }
-        }
+        Err(refusal) => OpenLoopAnswer {
+            number: refusal.number(),
+            magnitude: Detail::from(refusal).magnitude,
+            ..Default::default()
+        },
     }
 }

@@ -4,10 +4,11 @@ ghost use Rattle.logarithm.specs.Logarithms.{Log2};
 ghost use Rattle.logarithm.specs.Powers.{Pow2};
 ghost use Rattle.mr74.specs.Powers.{power_answer};
 
+use crate::details::Detail;
 use logarithm::Logarithm;
 
 #[repr(C)]
-#[derive(Clone, Copy)]
+#[derive(Clone, Copy, Default)]
 pub struct PowerAnswer {
     pub number: u8,
     pub negative: bool,
@@ -29,18 +30,16 @@ pub extern "C" fn mr74_pow2(exponent: u8, fraction_q15: u16) -> PowerAnswer
 {
     match logarithm::pow2(exponent, fraction_q15) {
         Ok(value) => PowerAnswer {
-            number: 0,
-            negative: false,
-            magnitude: 0,
             value,
+            ..Default::default()
         },
         Err(refusal) => {
-            let detail = refusal.detail();
+            let detail = Detail::from(refusal);
             PowerAnswer {
                 number: refusal.number(),
                 negative: detail.negative,
                 magnitude: detail.magnitude,
-                value: 0,
+                ..Default::default()
             }
         }
     }

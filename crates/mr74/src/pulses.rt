@@ -5,13 +5,14 @@ ghost use Rattle.codebook.specs.Readers.{decode};
 ghost use Rattle.codebook_search.specs.Pulses.{lent, pulses};
 ghost use Rattle.mr74.specs.Pulses.{pulses_answer, places_answer};
 
+use crate::details::Detail;
 use codebook::Places;
 use codebook_code::PulseWords;
 use codebook_sharpening::SharpeningGain;
 use refusal::Refusal;
 
 #[repr(C)]
-#[derive(Clone, Copy)]
+#[derive(Clone, Copy, Default)]
 pub struct PulsesAnswer {
     pub number: u8,
     pub magnitude: u64,
@@ -49,25 +50,20 @@ fn pulses_answer(answer: Result<PulseWords, Refusal>) -> PulsesAnswer
 {
     match answer {
         Ok(words) => PulsesAnswer {
-            number: 0,
-            magnitude: 0,
             positions: words.positions,
             signs: words.signs,
+            ..Default::default()
         },
-        Err(refusal) => {
-            let detail = refusal.detail();
-            PulsesAnswer {
-                number: refusal.number(),
-                magnitude: detail.magnitude,
-                positions: 0,
-                signs: 0,
-            }
-        }
+        Err(refusal) => PulsesAnswer {
+            number: refusal.number(),
+            magnitude: Detail::from(refusal).magnitude,
+            ..Default::default()
+        },
     }
 }
 
 #[repr(C)]
-#[derive(Clone, Copy)]
+#[derive(Clone, Copy, Default)]
 pub struct PlacesAnswer {
     pub number: u8,
     pub magnitude: u64,
@@ -95,23 +91,16 @@ fn places_answer(reading: Result<Places, Refusal>) -> PlacesAnswer
 {
     match reading {
         Ok(places) => PlacesAnswer {
-            number: 0,
-            magnitude: 0,
             first: places.first,
             second: places.second,
             third: places.third,
             last: places.last,
+            ..Default::default()
         },
-        Err(refusal) => {
-            let detail = refusal.detail();
-            PlacesAnswer {
-                number: refusal.number(),
-                magnitude: detail.magnitude,
-                first: 0,
-                second: 0,
-                third: 0,
-                last: 0,
-            }
-        }
+        Err(refusal) => PlacesAnswer {
+            number: refusal.number(),
+            magnitude: Detail::from(refusal).magnitude,
+            ..Default::default()
+        },
     }
 }

@@ -3,8 +3,13 @@ ghost use Rattle.std.specs.Prelude.{◌≡◌};
 ghost use Rattle.feed.specs.Records.{header};
 ghost use Rattle.mr74.specs.Records.{record_answer};
 
+use crate::details::Detail;
+
+// Stands for a kind where the feed ends.
+pub(crate) const FEED_END: u8 = 7;
+
 #[repr(C)]
-#[derive(Clone, Copy)]
+#[derive(Clone, Copy, Default)]
 pub struct RecordAnswer {
     pub number: u8,
     pub magnitude: u64,
@@ -21,31 +26,22 @@ pub extern "C" fn mr74_record(feed: &[u8], at: usize) -> RecordAnswer
 {
     match feed::header_at(feed, at) {
         Ok(None) => RecordAnswer {
-            number: 0,
-            magnitude: 0,
-            kind: 7,
-            from: 0,
-            length: 0,
+            kind: FEED_END,
+            ..Default::default()
         },
         Ok(Some(record)) => {
             let from = at + 1;
             RecordAnswer {
-                number: 0,
-                magnitude: 0,
                 kind: u8::from(record.kind),
                 from,
                 length: record.next - from,
+                ..Default::default()
             }
         }
-        Err(refusal) => {
-            let detail = refusal.detail();
-            RecordAnswer {
-                number: refusal.number(),
-                magnitude: detail.magnitude,
-                kind: 0,
-                from: 0,
-                length: 0,
-            }
-        }
+        Err(refusal) => RecordAnswer {
+            number: refusal.number(),
+            magnitude: Detail::from(refusal).magnitude,
+            ..Default::default()
+        },
     }
 }

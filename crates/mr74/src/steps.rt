@@ -1,24 +1,25 @@
 // One step on the record at a place. Detector, searcher and reader cross as in their stages; the 160 words of a filtering record are lent.
-ghost use Rattle.std.specs.Prelude.{[], ◌∷◌, ◌≡◌, length};
-ghost use Rattle.refusal.specs.Refused.{values, refused, turned_down, told};
-ghost use Rattle.refusal.specs.Checks.{checked, length_is};
+ghost use Rattle.std.specs.Prelude.{List, ◌≡◌, ℤ, length};
+ghost use Rattle.refusal.specs.Refused.{values, refused, told};
+ghost use Rattle.refusal.specs.Checks.{checked};
 ghost use Rattle.feed.specs.Records.{kind_number, body_length, header, body};
-ghost use Rattle.selection_answers.specs.Fields.{fields_of};
 ghost use Rattle.selection_answers.specs.Lines.{told_answer};
-ghost use Rattle.pitch_state.specs.States.{searcher_of, reader_of};
-ghost use Rattle.selection.specs.Steps.{selection_of, step_lent};
-ghost use Rattle.mr74.specs.Steps.{subframes_of, subframes_at, state_after, step_answer, stepped, of_step, step_in_numbers};
+ghost use Rattle.pitch_state.specs.States.{searcher_numbers, reader_numbers, searcher_of, reader_of};
+ghost use Rattle.mr74.specs.Fields.{fields_of};
+ghost use Rattle.mr74.specs.Steps.{subframes_of, subframes_at, step_answer, stepped, told_step_answer, step_in_numbers};
 
+use crate::details::Detail;
+use crate::records::FEED_END;
 use feed::Kind;
 use lag_reader::Reader;
 use pitch_search::Search;
 use pitch_state::PitchState;
 use refusal::{Refusal, Step};
 use selection::ClosedLoop;
-use selection_answers::{Answer, Fields};
+use selection_answers::Answer;
 
 #[repr(C)]
-#[derive(Clone, Copy)]
+#[derive(Clone, Copy, Default)]
 pub struct StepAnswer {
     pub number: u8,
     pub negative: bool,
@@ -39,7 +40,35 @@ pub struct StepAnswer {
     pub reader_start: u16,
 }
 
-#[tactic(auto, unfolding(crate::specs::Steps::step_in_numbers))]
+// Searcher and reader as the numbers that cross.
+#[derive(Clone, Copy)]
+struct PitchStates {
+    searcher: PitchState,
+    reader: PitchState,
+}
+
+impl From<ClosedLoop> for PitchStates {
+    ghost from_gives = { λ ends result. result ≡ record { searcher = searcher_numbers ends.searcher; reader = reader_numbers ends.reader } };
+
+    fn from(ends: ClosedLoop) -> Self {
+        PitchStates {
+            searcher: PitchState::from(ends.searcher),
+            reader: PitchState::from(ends.reader),
+        }
+    }
+}
+
+impl From<PitchStates> for ClosedLoop {
+    ghost from_gives = { λ states result. result ≡ record { searcher = searcher_of states.searcher; reader = reader_of states.reader } };
+
+    fn from(states: PitchStates) -> Self {
+        ClosedLoop {
+            searcher: Search::from(states.searcher),
+            reader: Reader::from(states.reader),
+        }
+    }
+}
+
 #[unsafe(no_mangle)]
 pub extern "C" fn mr74_step(
     feed: &[u8],
@@ -53,33 +82,43 @@ pub extern "C" fn mr74_step(
         × (history_q0.new ≡ (step_in_numbers feed.now at searcher reader history_q0.old words.old).history)
         × (words.new ≡ (step_in_numbers feed.now at searcher reader history_q0.old words.old).words) }
 {
-    match checked(feed, at, searcher, reader, history_q0, words) {
-        Ok(()) => lent_step(feed, at, searcher, reader, history_q0, words),
-        Err(refusal) => refused_step(refusal, searcher, reader),
+    let given = PitchStates { searcher, reader };
+    match lent_step(feed, at, given, history_q0, words) {
+        Ok(answer) => answer,
+        Err(refusal) => step_answer(Err(refusal), given),
     }
 }
 
-// Numbers 1, of both lists, and 2.
-fn checked(
+// Refused by number 1 for each list, then by number 2; else the step on the two lists as arrays.
+#[tactic(auto, unfolding(crate::specs::Steps::step_in_numbers))]
+fn lent_step(
     feed: &[u8],
     at: usize,
-    searcher: PitchState,
-    reader: PitchState,
-    history_q0: &[i16],
-    words: &[i16],
-) -> Result<(), Refusal>
-    ensures { told result ≡ checked (length_is 143 history_q0.now ∷ length_is 160 words.now ∷ subframes_at (header feed.now at) (body feed.now at) searcher reader) refused (values tt) }
+    given: PitchStates,
+    history_q0: &mut [i16],
+    words: &mut [i16],
+) -> Result<StepAnswer, Refusal>
+    ensures { record { answer = told_step_answer (told result) given.searcher given.reader; history = history_q0.new; words = words.new } ≡ step_in_numbers feed.now at given.searcher given.reader history_q0.old words.old }
 {
-    refusal::of_length::<143>(history_q0)?;
-    refusal::of_length::<160>(words)?;
-    known_at(feed, at, searcher, reader)
+    let history_length = history_q0.len();
+    let words_length = words.len();
+    let history = history_q0
+        .as_mut_array::<143>()
+        .ok_or(Refusal::Length(history_length))?;
+    let lent = words
+        .as_mut_array::<160>()
+        .ok_or(Refusal::Length(words_length))?;
+    known_at(feed, at, given)?;
+    let ends = ClosedLoop::from(given);
+    let step = selection::step_lent(ends, history, lent, feed, at);
+    Ok(stepped(step, given))
 }
 
-fn known_at(feed: &[u8], at: usize, searcher: PitchState, reader: PitchState) -> Result<(), Refusal>
-    ensures { told result ≡ checked (subframes_at (header feed.now at) (body feed.now at) searcher reader) refused (values tt) }
+fn known_at(feed: &[u8], at: usize, states: PitchStates) -> Result<(), Refusal>
+    ensures { told result ≡ checked (subframes_at (header feed.now at) (body feed.now at) states.searcher states.reader) refused (values tt) }
 {
     match feed::header_at(feed, at) {
-        Ok(Some(record)) => known_in(record.kind, feed::body_at(feed, at), searcher, reader),
+        Ok(Some(record)) => known_in(record.kind, feed::body_at(feed, at), states),
         Ok(None) => Ok(()),
         Err(_) => Ok(()),
     }
@@ -87,99 +126,102 @@ fn known_at(feed: &[u8], at: usize, searcher: PitchState, reader: PitchState) ->
 
 // Only the record that uses a state looks at the subframe that it expects.
 #[tactic(auto, unfolding(feed::specs::Records::lengths))]
-fn known_in(
-    kind: Kind,
-    body: &[u8],
-    searcher: PitchState,
-    reader: PitchState,
-) -> Result<(), Refusal>
+fn known_in(kind: Kind, body: &[u8], states: PitchStates) -> Result<(), Refusal>
     requires { length body.now ≡ body_length (kind_number kind) }
-    ensures { told result ≡ checked (subframes_of (kind_number kind) body.now searcher reader) refused (values tt) }
+    ensures { told result ≡ checked (subframes_of (kind_number kind) body.now states.searcher states.reader) refused (values tt) }
 {
     match kind {
-        Kind::Pitch => pitch_state::known_subframes(body[0], searcher.next),
-        Kind::LagReading => pitch_state::known_subframes(body[0], reader.next),
+        Kind::Pitch => pitch_state::known_subframes(body[0], states.searcher.next),
+        Kind::LagReading => pitch_state::known_subframes(body[0], states.reader.next),
         _ => Ok(()),
     }
 }
 
-// The step on copies of the two lists, which go back after it.
-fn lent_step(
-    feed: &[u8],
-    at: usize,
-    searcher: PitchState,
-    reader: PitchState,
-    history_q0: &mut [i16],
-    words: &mut [i16],
-) -> StepAnswer
-    requires { (length history_q0.old ≡ 143) × (length words.old ≡ 160) }
-    ensures { record { answer = result; history = history_q0.new; words = words.new } ≡ of_step searcher reader (step_lent (selection_of history_q0.old (searcher_of searcher) (reader_of reader)) words.old feed.now at) }
+// The numbers after an accepted reset, or an accepted record of the one kind that uses the state, are new; after any other they are those given.
+fn stepped(step: Step<Option<Answer>, ClosedLoop>, given: PitchStates) -> StepAnswer
+    ensures { (ws : List ℤ) → result ≡ stepped (told_answer step.answer ws) step.after.searcher step.after.reader given.searcher given.reader }
 {
-    let mut old = [0i16; 143];
-    let mut lent = [0i16; 160];
-    sums::copy(history_q0, &mut old);
-    sums::copy(words, &mut lent);
-    let ends = ClosedLoop {
-        searcher: Search::from(searcher),
-        reader: Reader::from(reader),
+    let new = PitchStates::from(step.after);
+    let after = match step.answer {
+        Ok(Some(Answer::Reset)) => new,
+        Ok(Some(Answer::Pitch { .. })) => PitchStates {
+            searcher: new.searcher,
+            ..given
+        },
+        Ok(Some(Answer::Lag { .. })) => PitchStates {
+            reader: new.reader,
+            ..given
+        },
+        _ => given,
     };
-    let step = selection::step_lent(ends, &mut old, &mut lent, feed, at);
-    sums::copy(&old, history_q0);
-    sums::copy(&lent, words);
-    stepped(step, searcher, reader)
+    step_answer(step.answer, after)
 }
 
-fn stepped(step: Step<Answer, ClosedLoop>, searcher: PitchState, reader: PitchState) -> StepAnswer
-    ensures { result ≡ stepped (told_answer step.answer []) step.after.searcher step.after.reader searcher reader }
+fn step_answer(answer: Result<Option<Answer>, Refusal>, states: PitchStates) -> StepAnswer
+    ensures { (ws : List ℤ) → result ≡ step_answer (fields_of (told_answer answer ws)) states.searcher states.reader }
 {
-    let fields = selection_answers::fields_of(step.answer);
-    let searched = PitchState::from(step.after.searcher);
-    let read = PitchState::from(step.after.reader);
-    let searcher_after = state_after(Kind::Pitch, fields, searched, searcher);
-    let reader_after = state_after(Kind::LagReading, fields, read, reader);
-    step_answer(fields, searcher_after, reader_after)
-}
-
-fn refused_step(refusal: Refusal, searcher: PitchState, reader: PitchState) -> StepAnswer
-    ensures { result ≡ step_answer (fields_of (turned_down refusal)) searcher reader }
-{
-    step_answer(selection_answers::fields_of(Err(refusal)), searcher, reader)
-}
-
-fn state_after(kind: Kind, fields: Fields, new: PitchState, given: PitchState) -> PitchState
-    ensures { result ≡ state_after (kind_number kind) fields new given }
-{
-    if fields.number != 0 {
-        return given;
-    }
-    if fields.line == 0 {
-        return new;
-    }
-    if fields.line == u8::from(kind) {
-        return new;
-    }
-    given
-}
-
-fn step_answer(fields: Fields, searcher: PitchState, reader: PitchState) -> StepAnswer
-    ensures { result ≡ step_answer fields searcher reader }
-{
-    StepAnswer {
-        number: fields.number,
-        negative: fields.negative,
-        magnitude: fields.magnitude,
-        line: fields.line,
-        first: fields.first,
-        second: fields.second,
-        third: fields.third,
-        fourth: fields.fourth,
-        searcher_samples: searcher.samples,
-        searcher_fraction: searcher.fraction,
-        searcher_next: searcher.next,
-        searcher_start: searcher.start,
-        reader_samples: reader.samples,
-        reader_fraction: reader.fraction,
-        reader_next: reader.next,
-        reader_start: reader.start,
+    let numbers = StepAnswer {
+        searcher_samples: states.searcher.samples,
+        searcher_fraction: states.searcher.fraction,
+        searcher_next: states.searcher.next,
+        searcher_start: states.searcher.start,
+        reader_samples: states.reader.samples,
+        reader_fraction: states.reader.fraction,
+        reader_next: states.reader.next,
+        reader_start: states.reader.start,
+        ..Default::default()
+    };
+    match answer {
+        Ok(None) => StepAnswer {
+            line: FEED_END,
+            ..numbers
+        },
+        Ok(Some(Answer::Reset)) => numbers,
+        Ok(Some(Answer::Open(lag))) => StepAnswer {
+            line: u8::from(Kind::HalfFrame),
+            first: i32::from(lag.samples()),
+            ..numbers
+        },
+        Ok(Some(Answer::Pitch { index, lag, hertz })) => StepAnswer {
+            line: u8::from(Kind::Pitch),
+            first: i32::from(index),
+            second: i32::from(lag.samples),
+            third: i32::from(i16::from(lag.fraction)),
+            fourth: i32::from(hertz),
+            ..numbers
+        },
+        Ok(Some(Answer::Pulses(words))) => StepAnswer {
+            line: u8::from(Kind::Pulses),
+            first: i32::from(words.positions),
+            second: i32::from(words.signs),
+            ..numbers
+        },
+        Ok(Some(Answer::Gain(chosen))) => StepAnswer {
+            line: u8::from(Kind::Gain),
+            first: i32::from(chosen.index),
+            second: i32::from(chosen.row.pitch_q14),
+            third: i32::from(chosen.row.correction_q12),
+            ..numbers
+        },
+        Ok(Some(Answer::Filter)) => StepAnswer {
+            line: u8::from(Kind::Filtering),
+            ..numbers
+        },
+        Ok(Some(Answer::Lag { lag, hertz })) => StepAnswer {
+            line: u8::from(Kind::LagReading),
+            first: i32::from(lag.samples),
+            second: i32::from(i16::from(lag.fraction)),
+            third: i32::from(hertz),
+            ..numbers
+        },
+        Err(refusal) => {
+            let detail = Detail::from(refusal);
+            StepAnswer {
+                number: refusal.number(),
+                negative: detail.negative,
+                magnitude: detail.magnitude,
+                ..numbers
+            }
+        }
     }
 }

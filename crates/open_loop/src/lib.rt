@@ -5,14 +5,10 @@ ghost use Rattle.std.specs.Prelude.{◌≡◌};
 ghost use Rattle.pitch.specs.Kinds.{told_lag};
 ghost use Rattle.open_loop.specs.Detectors.{fresh_detector, joined, Pitch_ol};
 
+use fixed::sizes::HALF_FRAME_SAMPLES;
+use open_loop_correlation::{HISTORY_SAMPLES, INPUT_SAMPLES};
 use pitch::OpenLoopLag;
 use refusal::Step;
-
-const HALF_FRAME_SAMPLES: usize = 80;
-
-const HISTORY_SAMPLES: usize = 143;
-
-const INPUT_SAMPLES: usize = 223;
 
 // The detector: the last 143 words, as they came in.
 #[derive(Clone, Copy)]
@@ -21,6 +17,7 @@ pub struct Detector {
 }
 
 impl Detector {
+    #[tactic(auto, unfolding(crate::specs::Detectors::fresh_detector))]
     pub fn fresh() -> Self
         ensures { result ≡ fresh_detector }
     {
@@ -36,6 +33,7 @@ impl Detector {
     }
 
     // Consecutive half frames of perceptually weighted speech.
+    #[tactic(auto, using(open_loop_sections::proofs::Lags::lag_in, crate::proofs::Lengths::kept_by), unfolding(crate::specs::Detectors::Pitch_ol))]
     pub fn push(self, samples_q0: &[i16]) -> Step<OpenLoopLag, Self>
         ensures { (told_lag result.answer ≡ (Pitch_ol self samples_q0.now).answer)
             × (result.after ≡ (Pitch_ol self samples_q0.now).after) }
@@ -52,14 +50,12 @@ impl Detector {
                     },
                 }
             }
-            Err(refusal) => Step {
-                answer: Err(refusal),
-                after: self,
-            },
+            Err(refusal) => Step::refused(refusal, self),
         }
     }
 }
 
+#[tactic(auto, using(crate::proofs::Lengths::joined_by))]
 fn joined(history: &[i16; 143], samples: &[i16; 80]) -> [i16; 223]
     ensures { result ≡ joined history.now samples.now }
 {

@@ -6,17 +6,18 @@ ghost use Rattle.std.specs.Int.Signed.{lt_z};
 ghost use Rattle.fixed.specs.Lists.{tabulate};
 ghost use Rattle.open_loop_correlation.specs.Correlations.{products, energy_from, correlation, by_lag};
 
-const HALF_FRAME_SAMPLES: usize = 80;
+use fixed::sizes::HALF_FRAME_SAMPLES;
 
-const HISTORY_SAMPLES: usize = 143;
+pub const HISTORY_SAMPLES: usize = 143;
 
-const INPUT_SAMPLES: usize = 223;
+pub const INPUT_SAMPLES: usize = 223;
 
 const MINIMUM_LAG: usize = 20;
 
 const LAGS: usize = 144;
 
 // By the lag: places 20 to 143. An energy of all words that is not clipped proves that no sum is.
+#[tactic(auto, using(crate::proofs::Energies::energy_within))]
 pub fn correlations(words: &[i16; 223]) -> [i32; 144]
     ensures { result ≡ by_lag words.now }
 {
@@ -28,6 +29,7 @@ pub fn correlations(words: &[i16; 223]) -> [i32; 144]
 }
 
 // Of `count` words from a place on; 0 where these are not all among the 223. Terms are not negative, so the sum is clipped once.
+#[tactic(auto, unfolding(crate::specs::Correlations::energy_from, sums::specs::Plain::squared))]
 pub fn energy(words: &[i16; 223], from: usize, count: usize) -> i32
     ensures { result ≡ energy_from words.now from count }
 {
@@ -55,6 +57,7 @@ fn plain_table(words: &[i16; 223]) -> [i32; 144]
 }
 
 // Half the sum, doubled at the end: the compiler makes products of several words at once of it.
+#[tactic(auto, unfolding(sums::specs::Plain::plain))]
 fn plain_at(words: &[i16; 223], lag: usize) -> i32
     requires { (lag ≤ 143) × (lt_z (products words.now 0 0 223) (pos 2147483647) ≡ true) }
     ensures { result ≡ correlation words.now lag }
@@ -81,6 +84,7 @@ fn clipped_table(words: &[i16; 223]) -> [i32; 144]
 }
 
 // The correlations of four neighbouring lags. The four sums grow side by side, each in its own order.
+#[tactic(auto, using(fixed::proofs::Lists::zeros), unfolding(crate::specs::Correlations::products, fixed::specs::Lists::L_sum))]
 fn four_at(words: &[i16; 223], lag: usize) -> [i32; 4]
     requires { lag + 3 ≤ 143 }
     ensures { result ≡ tabulate (λ n. correlation words.now (lag + n)) 4 }

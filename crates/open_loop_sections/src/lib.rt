@@ -8,17 +8,15 @@ ghost use Rattle.fixed.specs.Lists.{at, best};
 ghost use Rattle.open_loop_correlation.specs.Correlations.{by_lag};
 ghost use Rattle.open_loop_sections.specs.Sections.{scaled, scaled_all, held_at, Lag_max, of_sections, lag_of};
 
-const HALF_FRAME_SAMPLES: usize = 80;
-
-const HISTORY_SAMPLES: usize = 143;
-
-const INPUT_SAMPLES: usize = 223;
+use fixed::sizes::HALF_FRAME_SAMPLES;
+use open_loop_correlation::{HISTORY_SAMPLES, INPUT_SAMPLES};
 
 const LOW_ENERGY_LIMIT: i32 = 1048576;
 
 const SHORT_LAG_THRESHOLD_Q15: i16 = 27853;
 
 // The lag of 223 words, 143 old ones and a half frame's 80 after them.
+#[tactic(auto, unfolding(crate::specs::Sections::lag_of))]
 pub fn lag_of(input: &[i16; 223]) -> usize
     ensures { result ≡ lag_of input.now }
 {
@@ -45,6 +43,7 @@ fn scaled(v: i16, energy: i32) -> i16
     v
 }
 
+#[tactic(auto, using(crate::proofs::Lags::favoured_held), unfolding(crate::specs::Sections::of_sections))]
 fn of_sections(words: &[i16; 223], table: &[i32; 144]) -> usize
     requires { table.now ≡ by_lag words.now }
     ensures { result ≡ of_sections words.now }
@@ -63,6 +62,7 @@ struct Held {
 }
 
 // The best of a section's lags.
+#[tactic(auto, using(fixed::proofs::Choices::best_in))]
 fn section(words: &[i16; 223], table: &[i32; 144], low: usize, span: usize) -> Held
     requires { (table.now ≡ by_lag words.now) × (20 ≤ low) × (low + span ≤ 143) }
     ensures { result ≡ held_at words.now (Lag_max words.now low span) }
@@ -75,6 +75,7 @@ fn section(words: &[i16; 223], table: &[i32; 144], low: usize, span: usize) -> H
 }
 
 // The smaller lag wins a tie.
+#[tactic(auto, unfolding(fixed::specs::Lists::best))]
 fn best_lag(table: &[i32; 144], low: usize, span: usize) -> usize
     requires { low + span ≤ 143 }
     ensures { result ≡ best lt_z (at table.now) low span }

@@ -189,7 +189,7 @@ impl PitchLag {
     fn relative(index: u8, previous: u16) -> Self
         ensures { result ≡ relative_lag (relative_start handset previous) index }
     {
-        let start = relative_start(previous);
+        let start = Window::relative(previous).start;
         let fraction = Fraction::at(index);
         PitchLag {
             samples: start + (index as u16 + 2) / 3 - 1,
@@ -226,11 +226,7 @@ impl PitchLag {
             return samples + INTEGER_INDEX_BIAS;
         }
         let fraction = self.fraction;
-        let place = 3 * samples + fraction.from_zero();
-        if place < ABSOLUTE_INDEX_BIAS {
-            return 0;
-        }
-        place - ABSOLUTE_INDEX_BIAS
+        (3 * samples + fraction.from_zero()).saturating_sub(ABSOLUTE_INDEX_BIAS)
     }
 
     // TS 26.073 Enc_lag3, subframes two and four.
@@ -238,36 +234,42 @@ impl PitchLag {
         ensures { result ≡ relative_index start self }
     {
         let fraction = self.fraction;
-        let place = 3 * self.samples as u32 + fraction.from_zero() + 1;
-        let origin = 3 * start as u32;
-        if place < origin {
-            return 0;
-        }
-        place - origin
+        (3 * self.samples as u32 + fraction.from_zero() + 1).saturating_sub(3 * start as u32)
     }
 }
 
-// The first lag of a window of 7 round an open-loop lag, and of a window of 10 round the lag before.
-pub fn absolute_start(centre: u16) -> u16
-    ensures { result ≡ absolute_start handset centre }
-{
-    window_start(ABSOLUTE_SPAN, ABSOLUTE_RADIUS, centre)
+// The lags that a search goes through, from `start` to start + span.
+#[derive(Clone, Copy, Debug, PartialEq, Eq)]
+pub struct Window {
+    pub start: u16,
+    pub span: u16,
 }
 
-pub fn relative_start(previous: u16) -> u16
-    ensures { result ≡ relative_start handset previous }
-{
-    window_start(RELATIVE_SPAN, RELATIVE_RADIUS, previous)
-}
+impl Window {
+    // Of 7 lags round an open-loop lag.
+    pub fn absolute(centre: u16) -> Self
+        ensures { result ≡ record { start = absolute_start handset centre; span = 6 } }
+    {
+        Window::around(centre, ABSOLUTE_RADIUS, ABSOLUTE_SPAN)
+    }
 
-// The start of span + 1 lags from `radius` below the centre, held so that they lie in the limits of an open-loop lag.
-fn window_start(span: u16, radius: u16, centre: u16) -> u16
-    requires { span ≤ 123 }
-    ensures { result ≡ window_start span radius handset centre }
-{
-    centre
-        .saturating_sub(radius)
-        .clamp(OpenLoopLag::MIN, OpenLoopLag::MAX - span)
+    // Of 10 lags round the lag before.
+    pub fn relative(previous: u16) -> Self
+        ensures { result ≡ record { start = relative_start handset previous; span = 9 } }
+    {
+        Window::around(previous, RELATIVE_RADIUS, RELATIVE_SPAN)
+    }
+
+    // From `radius` below the centre, held so that its lags lie in the limits of an open-loop lag.
+    fn around(centre: u16, radius: u16, span: u16) -> Self
+        requires { span ≤ 123 }
+        ensures { result ≡ record { start = window_start span radius handset centre; span = span } }
+    {
+        let start = centre
+            .saturating_sub(radius)
+            .clamp(OpenLoopLag::MIN, OpenLoopLag::MAX - span);
+        Window { start, span }
+    }
 }
 
 // The lag of a fresh searcher and of a fresh reader.

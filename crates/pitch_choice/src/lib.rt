@@ -2,15 +2,11 @@
 #![tactic(auto)]
 
 ghost use Rattle.std.specs.Prelude.{◌≡◌, ◌+◌, ◌<◌, ◌≤◌};
+ghost use Rattle.pitch.specs.Kinds.{absolute};
 ghost use Rattle.pitch_choice.specs.Choices.{interpolator, Interpol_6, step_value, best_lag, best_step, settled, chosen, choose};
 
-use pitch::{Fraction, PitchLag};
-
-const INTERPOLATION_SAMPLES: usize = 4;
-
-const MIN_SEARCH_LAG_SAMPLES: usize = 20;
-
-const MAX_SEARCH_LAG_SAMPLES: usize = 143;
+use fixed::sizes::INTERPOLATION_SAMPLES;
+use pitch::{Fraction, OpenLoopLag, PitchLag, Subframe, Window};
 
 const MAX_FRACTIONAL_LAG: usize = 84;
 
@@ -21,12 +17,14 @@ const INTERPOLATOR: [i16; 25] = [
 ];
 
 // The larger lag wins a tie.
-fn best_lag(correlation: &[i16; 148], start: usize, span: usize) -> usize
-    requires { start + span < 148 }
-    ensures { result ≡ best_lag correlation.now start span }
+#[tactic(auto, unfolding(crate::specs::Choices::best_lag, fixed::specs::Lists::best))]
+fn best_lag(correlation: &[i16; 148], window: Window) -> usize
+    requires { window.start + window.span ≤ 143 }
+    ensures { result ≡ best_lag correlation.now window.start window.span }
 {
+    let start = window.start as usize;
     let mut lag = start;
-    for i in 0..span {
+    for i in 0..window.span as usize {
         let next = start + i + 1;
         if correlation[next] >= correlation[lag] {
             lag = next;
@@ -36,6 +34,7 @@ fn best_lag(correlation: &[i16; 148], start: usize, span: usize) -> usize
 }
 
 // TS 26.073 Interpol_3or6.
+#[tactic(auto, unfolding(crate::specs::Choices::interpolated_to, crate::specs::Choices::Interpol_6))]
 fn interpolated(correlation: &[i16; 148], place: usize, phase: usize, table: &[i16; 25]) -> i16
     requires { (table.now ≡ interpolator) × (3 ≤ place) × (place ≤ 143) × (phase ≤ 6) }
     ensures { result ≡ Interpol_6 correlation.now place phase }
@@ -49,6 +48,7 @@ fn interpolated(correlation: &[i16; 148], place: usize, phase: usize, table: &[i
 }
 
 // Steps 0 to 4 stand for the fractions -2 to 2.
+#[tactic(auto, using(crate::proofs::Choosings::step_early, crate::proofs::Choosings::step_late))]
 fn step_value(correlation: &[i16; 148], lag: usize, step: usize, table: &[i16; 25]) -> i16
     requires { (table.now ≡ interpolator) × (4 ≤ lag) × (lag ≤ 143) × (step ≤ 4) }
     ensures { result ≡ step_value correlation.now lag step }
@@ -60,6 +60,7 @@ fn step_value(correlation: &[i16; 148], lag: usize, step: usize, table: &[i16; 2
 }
 
 // The earlier fraction is kept on a tie.
+#[tactic(auto, unfolding(crate::specs::Choices::interpolator))]
 fn best_step(correlation: &[i16; 148], lag: usize) -> usize
     requires { (4 ≤ lag) × (lag ≤ 143) }
     ensures { result ≡ best_step correlation.now lag 4 }
@@ -67,8 +68,7 @@ fn best_step(correlation: &[i16; 148], lag: usize) -> usize
     let table = INTERPOLATOR;
     let mut best = 0;
     let mut greatest = step_value(correlation, lag, 0, &table);
-    for i in 0..4 {
-        let step = i + 1;
+    for step in 1..5 {
         let value = step_value(correlation, lag, step, &table);
         if greatest < value {
             greatest = value;
@@ -78,7 +78,7 @@ fn best_step(correlation: &[i16; 148], lag: usize) -> usize
     best
 }
 
-fn settled(lag: u16, step: usize) -> PitchLag
+fn settled(lag: usize, step: usize) -> PitchLag
     requires { (1 ≤ lag) × (lag ≤ 143) }
     ensures { result ≡ settled lag step }
 {
@@ -89,28 +89,32 @@ fn settled(lag: u16, step: usize) -> PitchLag
         3 => (lag, Fraction::PlusThird),
         _ => (lag + 1, Fraction::MinusThird),
     };
-    PitchLag { samples, fraction }
-}
-
-fn chosen(absolute: bool, correlation: &[i16; 148], start: usize, span: usize) -> PitchLag
-    requires { (20 ≤ start) × (start + span ≤ 143) }
-    ensures { result ≡ chosen absolute correlation.now start span }
-{
-    let lag = best_lag(correlation, start, span);
-    if absolute & (MAX_FRACTIONAL_LAG < lag) {
-        return settled(lag as u16, 2);
+    PitchLag {
+        samples: samples as u16,
+        fraction,
     }
-    settled(lag as u16, best_step(correlation, lag))
 }
 
-// Among span + 1 lags from start on, by the correlations at their places. Where these are no lags of a search, the answer is lag 0.
-pub fn choose(absolute: bool, correlation: &[i16; 148], start: u16, span: u16) -> PitchLag
-    ensures { result ≡ choose absolute correlation.now start span }
+#[tactic(auto, using(crate::proofs::Choosings::best_lag_in), unfolding(crate::specs::Choices::chosen))]
+fn chosen(subframe: Subframe, correlation: &[i16; 148], window: Window) -> PitchLag
+    requires { (20 ≤ window.start) × (window.start + window.span ≤ 143) }
+    ensures { result ≡ chosen (absolute subframe) correlation.now window.start window.span }
 {
-    let low = start as usize;
-    let count = span as usize;
-    if (MIN_SEARCH_LAG_SAMPLES <= low) & (low + count <= MAX_SEARCH_LAG_SAMPLES) {
-        return chosen(absolute, correlation, low, count);
+    let lag = best_lag(correlation, window);
+    if subframe.absolute() && MAX_FRACTIONAL_LAG < lag {
+        return settled(lag, 2);
+    }
+    settled(lag, best_step(correlation, lag))
+}
+
+// By the correlations at the places of the window's lags. Where these are no lags of a search, the answer is lag 0.
+#[tactic(auto, unfolding(crate::specs::Choices::choose))]
+pub fn choose(subframe: Subframe, correlation: &[i16; 148], window: Window) -> PitchLag
+    ensures { result ≡ choose (absolute subframe) correlation.now window.start window.span }
+{
+    let last = window.start as u32 + window.span as u32;
+    if OpenLoopLag::MIN <= window.start && last <= OpenLoopLag::MAX as u32 {
+        return chosen(subframe, correlation, window);
     }
     PitchLag {
         samples: 0,

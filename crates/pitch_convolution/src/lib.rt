@@ -7,9 +7,8 @@ ghost use Rattle.pitch_convolution.specs.Filters.{Convolve, convolve};
 ghost use Rattle.refusal.specs.Refused.{told};
 
 use fixed::Clipped;
+use fixed::sizes::SUBFRAME_SAMPLES;
 use refusal::Refusal;
-
-const SUBFRAME_SAMPLES: usize = 40;
 
 // TS 26.073 Convolve, which truncates.
 #[tactic(auto, unfolding(crate::specs::Filters::convolve))]
@@ -28,12 +27,13 @@ pub fn convolve(input: &[i16], impulse_q12: &[i16], output: &mut [i16]) -> Resul
 pub fn convolved(input: &[i16; 40], impulse: &[i16; 40]) -> [i16; 40]
     ensures { result ≡ Convolve input.now impulse.now }
 {
-    let mut sums = [0i32; 40];
+    let mut sums = [0i32; SUBFRAME_SAMPLES];
     sums::convolution(input, impulse, &mut sums);
     std::array::from_fn(|n| high_of_eightfold(sums[n]))
 }
 
 // The high word of a sum shifted to the left by 3, in one shift and one clip.
+#[tactic(auto, using(fixed::proofs::Products::high_shifted))]
 fn high_of_eightfold(sum: i32) -> i16
     ensures { result ≡ extract_h (L_shl sum (pos 3)) }
 {

@@ -10,9 +10,8 @@ ghost use Rattle.energy.specs.Root.{Inv_sqrt, inverses};
 ghost use Rattle.pitch_correlation.specs.Correlations.{scaled, scaled_all, update, correlations_from, Norm_Corr};
 
 use fixed::Clipped;
+use fixed::sizes::SUBFRAME_SAMPLES;
 use sums::EnergyAndSum;
-
-const SUBFRAME_SAMPLES: usize = 40;
 
 const HISTORY_SAMPLES: usize = 154;
 
@@ -49,6 +48,7 @@ fn scaled(v: i16, loud: bool) -> i16
     v
 }
 
+#[tactic(auto, unfolding(crate::specs::Correlations::scaled_all))]
 fn scaled_all(convolved: &[i16; 40], loud: bool) -> [i16; 40]
     ensures { result ≡ scaled_all loud convolved.now }
 {
@@ -62,8 +62,8 @@ fn scaled_all(convolved: &[i16; 40], loud: bool) -> [i16; 40]
 fn moved(filtered: &[i16; 40]) -> [i16; 40]
     ensures { result ≡ tabulate (between (λ j. at filtered.now (j - 1)) (λ j. pos 0) 1 40) 40 }
 {
-    let mut words = [0i16; 40];
-    for j in 1..40 {
+    let mut words = [0i16; SUBFRAME_SAMPLES];
+    for j in 1..SUBFRAME_SAMPLES {
         words[j] = filtered[j - 1];
     }
     words
@@ -75,7 +75,7 @@ fn update(filtered: &[i16; 40], sample: i16, impulse: &[i16; 40], loud: bool) ->
 {
     let shift = filter_shift(loud);
     let mut next = moved(filtered);
-    for j in 0..40 {
+    for j in 0..SUBFRAME_SAMPLES {
         next[j] = fixed::add(compound::product_high(sample, impulse[j], shift), next[j]);
     }
     next[0] = scaled(sample, loud);
@@ -118,6 +118,7 @@ fn is_within(energy: i32, added: u64, room: u64) -> bool
 }
 
 // The energy and the sum with the target, in one walk. Whether it may be plain is known before it.
+#[tactic(auto, using(sums::proofs::Quiet::weighed_self, sums::proofs::Quiet::weighed_below))]
 fn energy_and_sum(filtered: &[i16; 40], target: &[i16; 40], plain: bool) -> EnergyAndSum
     requires { plain ≡ true → (squared (at filtered.now) 40 < 2 ^ 30) × (squared (at filtered.now) 40 * squared (at target.now) 40 < 2 ^ 60) }
     ensures { (result.energy ≡ dot filtered.now filtered.now 40) × (result.sum ≡ dot filtered.now target.now 40) }
@@ -129,13 +130,14 @@ fn energy_and_sum(filtered: &[i16; 40], target: &[i16; 40], plain: bool) -> Ener
 }
 
 // Half of either sum, doubled at the end: the compiler makes products of several words at once of it.
+#[tactic(auto, unfolding(fixed::specs::Lists::dot, fixed::specs::Lists::L_sum))]
 fn plain_walk(filtered: &[i16; 40], target: &[i16; 40]) -> EnergyAndSum
     requires { (weighed (at filtered.now) (at filtered.now) 40 < 2 ^ 30) × (weighed (at filtered.now) (at target.now) 40 < 2 ^ 30) }
     ensures { (result.energy ≡ dot filtered.now filtered.now 40) × (result.sum ≡ dot filtered.now target.now 40) }
 {
     let mut energy: i32 = 0;
     let mut sum: i32 = 0;
-    for i in 0..40 {
+    for i in 0..SUBFRAME_SAMPLES {
         energy += fixed::exact(filtered[i], filtered[i]);
         sum += fixed::exact(filtered[i], target[i]);
     }
@@ -154,6 +156,7 @@ fn normalized(energy: i32, sum: i32, roots: &[u16; 49]) -> i16
 }
 
 // By the lag, from low up to, and without, end. Where the lists have other lengths, or there is no such lag, or one is above 147, every place is 0.
+#[tactic(auto, using(crate::proofs::Filterings::unasked, crate::proofs::Filterings::forty_cut, crate::proofs::Filterings::norm_corr), unfolding(crate::specs::Correlations::correlations))]
 pub fn normalized_correlation(
     excitation: &[i16],
     target: &[i16],
@@ -195,7 +198,7 @@ fn correlated(
     let mut filtered = scaled_all(first, loud);
     let at_low = energy_and_sum(&filtered, target, squares <= room);
     let mut energy = at_low.energy;
-    let mut correlation = [0i16; 148];
+    let mut correlation = [0i16; CORRELATION_SAMPLES];
     correlation[low] = normalized(energy, at_low.sum, &roots);
     for next in low + 1..end {
         let sample = excitation[HISTORY_SAMPLES - next];

@@ -1,17 +1,13 @@
 // The closed-loop pitch search, TS 26.073 Pitch_fr at 7.4 kbit/s, from pitch/search.rs.
 #![tactic(auto)]
 
-ghost use Rattle.std.specs.Prelude.{◌≡◌};
-ghost use Rattle.refusal.specs.Refused.{values, refused, told};
+ghost use Rattle.std.specs.Prelude.{◌≡◌, IfOk};
+ghost use Rattle.refusal.specs.Refused.{values, refused, told, put};
 ghost use Rattle.refusal.specs.Checks.{checked, told_step};
 ghost use Rattle.pitch_search.specs.Searches.{fresh_search, accepted, search_checks, Pitch_fr};
 
 use pitch::{OpenLoopLag, PitchLag, Subframe};
 use refusal::{Refusal, Step};
-
-const SUBFRAME_SAMPLES: usize = 40;
-
-const EXCITATION_SAMPLES: usize = 194;
 
 #[derive(Clone, Copy, Debug, PartialEq, Eq)]
 pub struct SearchedPitch {
@@ -25,6 +21,16 @@ pub struct Search {
     pub previous: PitchLag,
     pub next: Subframe,
     pub start: u16,
+}
+
+// What a search reads, once its checks let it through.
+#[derive(Clone, Copy)]
+struct Asked<'a> {
+    excitation: &'a [i16; 194],
+    target: &'a [i16; 40],
+    impulse_q12: &'a [i16; 40],
+    first: OpenLoopLag,
+    second: OpenLoopLag,
 }
 
 impl Search {
@@ -58,54 +64,68 @@ impl Search {
         ensures { told_step result ≡ Pitch_fr self excitation.now target.now impulse_q12.now first second subframe }
     {
         match self.checked(excitation, target, impulse_q12, first, second, subframe) {
-            Ok(()) => self.accepted(excitation, target, impulse_q12, first, second),
-            Err(refusal) => Step {
-                answer: Err(refusal),
-                after: self,
-            },
+            Ok(asked) => self.accepted(asked),
+            Err(refusal) => Step::refused(refusal, self),
         }
     }
 
     // Numbers 1 to 4, in checking order.
-    fn checked(
+    fn checked<'a>(
         self,
-        excitation: &[i16],
-        target: &[i16],
-        impulse_q12: &[i16],
+        excitation: &'a [i16],
+        target: &'a [i16],
+        impulse_q12: &'a [i16],
         first: u16,
         second: u16,
         subframe: u8,
-    ) -> Result<(), Refusal>
-        ensures { told result ≡ checked (search_checks self excitation.now target.now impulse_q12.now first second subframe) refused (values tt) }
+    ) -> Result<Asked<'a>, Refusal>
+        ensures answer { put (λ asked. tt {0}) (told result) ≡ checked (search_checks self excitation.now target.now impulse_q12.now first second subframe) refused (values tt) }
+        ensures lists { IfOk result (λ asked. (asked.excitation.now ≡ excitation.now) × (asked.target.now ≡ target.now) × (asked.impulse_q12.now ≡ impulse_q12.now)) }
+        ensures lags { IfOk result (λ asked. (asked.first.0 ≡ first) × (asked.second.0 ≡ second)) }
     {
-        refusal::of_length::<EXCITATION_SAMPLES>(excitation)?;
-        refusal::of_length::<SUBFRAME_SAMPLES>(target)?;
-        refusal::of_length::<SUBFRAME_SAMPLES>(impulse_q12)?;
+        let excitation = refusal::of_length(excitation)?;
+        let target = refusal::of_length(target)?;
+        let impulse_q12 = refusal::of_length(impulse_q12)?;
         let named = Subframe::try_from(subframe)?;
-        OpenLoopLag::try_new(first)?;
-        OpenLoopLag::try_new(second)?;
+        let first = OpenLoopLag::try_new(first)?;
+        let second = OpenLoopLag::try_new(second)?;
         if named != self.next {
             return Err(Refusal::Order(u8::from(self.next)));
         }
-        Ok(())
+        Ok(Asked {
+            excitation,
+            target,
+            impulse_q12,
+            first,
+            second,
+        })
     }
 
     // The Rust answers the lag that the index decodes to: it is the chosen one.
-    fn accepted(
-        self,
-        excitation: &[i16],
-        target: &[i16],
-        impulse: &[i16],
-        first: u16,
-        second: u16,
-    ) -> Step<SearchedPitch, Self>
-        ensures { told_step result ≡ accepted self excitation.now target.now impulse.now first second }
+    #[tactic(auto, using(pitch_window::proofs::Sendings::sent_fits, pitch_window::proofs::Sendings::sent_back))]
+    fn accepted(self, asked: Asked) -> Step<SearchedPitch, Self>
+        ensures { told_step result ≡ accepted self asked.entry.excitation.now asked.entry.target.now asked.entry.impulse_q12.now asked.entry.first.0 asked.entry.second.0 }
     {
         let due = self.next;
         let previous = self.previous.samples;
-        let start = pitch_window::window_start(due, previous, first, second);
+        let Asked {
+            excitation,
+            target,
+            impulse_q12,
+            first,
+            second,
+        } = asked;
+        let first = first.samples();
+        let second = second.samples();
+        let start = pitch_window::window(due, previous, first, second).start;
         let chosen = pitch_window::chosen_lag(
-            due, previous, first, second, excitation, target, impulse,
+            due,
+            previous,
+            first,
+            second,
+            excitation,
+            target,
+            impulse_q12,
         );
         let index = chosen.index(due, start) as u8;
         let lag = PitchLag::decoded(due, index, previous);

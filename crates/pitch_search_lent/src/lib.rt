@@ -9,11 +9,11 @@ use pitch_search::{Search, SearchedPitch};
 use refusal::Refusal;
 
 // The searcher is lent by its caller and updated there.
-pub fn search_lent<'s, 'a>(
-    searcher: &'s mut Search,
-    excitation: &'a [i16],
-    target: &'a [i16],
-    impulse_q12: &'a [i16],
+pub fn search_lent(
+    searcher: &mut Search,
+    excitation: &[i16],
+    target: &[i16],
+    impulse_q12: &[i16],
     first: u16,
     second: u16,
     subframe: u8,

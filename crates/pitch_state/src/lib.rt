@@ -92,12 +92,7 @@ fn previous_of(state: PitchState) -> PitchLag
 fn subframe_of(number: u8) -> Subframe
     ensures { result ≡ subframe_of number }
 {
-    match number {
-        1 => Subframe::One,
-        2 => Subframe::Two,
-        3 => Subframe::Three,
-        _ => Subframe::Four,
-    }
+    Subframe::try_from(number).unwrap_or(Subframe::Four)
 }
 
 // ---- The checks that come before the stage's own.
@@ -146,7 +141,7 @@ pub fn search(
             let step = searcher.search(excitation, target, impulse_q12, first, second, subframe);
             kept(state, step.answer, PitchState::from(step.after))
         }
-        Err(refusal) => kept(state, Err(refusal), state),
+        Err(refusal) => Step::refused(refusal, state),
     }
 }
 
@@ -159,7 +154,7 @@ pub fn read(state: PitchState, subframe: u8, index: u8) -> Step<PitchLag, PitchS
             let step = Reader::from(state).read(subframe, index);
             kept(state, step.answer, PitchState::from(step.after))
         }
-        Err(refusal) => kept(state, Err(refusal), state),
+        Err(refusal) => Step::refused(refusal, state),
     }
 }
 

@@ -1,8 +1,8 @@
 -- 01, 'What is turned down', and the numbers of 02: the number and the detail of each case. Every contract that speaks of a refusal speaks through these.
-use Rattle.std.specs.Prelude.{Bool, true, false, ℕ, suc, ℤ, pos, negsuc, Result, Ok, Err}
+use Rattle.std.specs.Prelude.{Bool, true, false, List, ◌∷◌, ◌++◌, ℕ, ℤ, pos, Result, Ok, Err}
+use Rattle.std.specs.Fmt.{decimal, signed_decimal}
 use Rattle.refusal.specs.declared.Refusal.{Refusal}
 use Rattle.refusal.specs.declared.Refusal.TheVariants.{Length, Subframe, LimitChoice, OpenLoopLag, Order, RelativeIndex, PulseLag, Exponent, Positions, Signs, Kind, FeedEnd, Fraction}
-use Rattle.refusal.specs.declared.Detail.{Detail}
 
 -- the number of each case
 abbrev pub number : Refusal → ℕ
@@ -36,10 +36,9 @@ detail (Kind n) = pos n
 detail (FeedEnd n) = pos n
 detail (Fraction n) = pos n
 
--- the detail as the struct that holds it
-abbrev pub sign_magnitude : ℤ → Detail
-sign_magnitude (pos n) = record { negative = false; magnitude = n }
-sign_magnitude (negsuc n) = record { negative = true; magnitude = suc n }
+-- a refusal in text: its number, a space, its detail
+abbrev pub in_text : Refusal → List ℕ
+in_text r = decimal (number r) ++ 32 ∷ signed_decimal (detail r)
 
 -- what an entry answers, told as 01 gives it and not as the struct or enum that holds it: its values, or a number and a detail
 pub data Told (A : Type 0) : Type 0 where

@@ -1,8 +1,8 @@
 // 01, 'What is turned down', and the numbers of 02: one case for each thing that can be wrong, with its detail.
 #![tactic(auto)]
 
-ghost use Rattle.std.specs.Prelude.{◌≡◌, pos, length, IfErr, IfOk};
-ghost use Rattle.refusal.specs.Refused.{number, detail, sign_magnitude};
+ghost use Rattle.std.specs.Prelude.{◌≡◌, ◌<◌, ◌^◌, Some, Err, nat_abs, length, IfErr, IfOk};
+ghost use Rattle.refusal.specs.Refused.{number, detail, in_text};
 
 use std::error::Error;
 use std::fmt;
@@ -35,18 +35,23 @@ pub enum Refusal {
     Fraction(u16),
 }
 
-// A detail is a length, as large as a list can be, or a number that may be negative.
-#[derive(Clone, Copy, Debug, PartialEq, Eq)]
-pub struct Detail {
-    pub negative: bool,
-    pub magnitude: u64,
-}
-
 // What an entry with a state answers, and the state that it keeps for the next call.
 #[derive(Clone, Copy, Debug, PartialEq, Eq)]
 pub struct Step<A, S> {
     pub answer: Result<A, Refusal>,
     pub after: S,
+}
+
+impl<A, S> Step<A, S> {
+    // A refusal keeps the state as it was.
+    pub fn refused(refusal: Refusal, state: S) -> Self
+        ensures { result ≡ record { answer = Err refusal; after = state } }
+    {
+        Step {
+            answer: Err(refusal),
+            after: state,
+        }
+    }
 }
 
 impl Refusal {
@@ -70,29 +75,33 @@ impl Refusal {
         }
     }
 
-    pub fn detail(self) -> Detail
-        ensures { result ≡ sign_magnitude (detail self) }
+    // A length, as large as a list can be, or a number that may be negative.
+    pub fn detail(self) -> i128
+        ensures value { result ≡ detail self }
+        ensures bound { nat_abs result < 2 ^ 64 }
     {
         match self {
-            Refusal::Length(n) => counted(n as u64),
-            Refusal::Subframe(n) => counted(n as u64),
-            Refusal::LimitChoice(n) => counted(n as u64),
-            Refusal::OpenLoopLag(n) => counted(n as u64),
-            Refusal::Order(n) => counted(n as u64),
-            Refusal::RelativeIndex(n) => counted(n as u64),
-            Refusal::PulseLag(n) => counted(n as u64),
-            Refusal::Exponent(e) => signed(e),
-            Refusal::Positions(n) => counted(n as u64),
-            Refusal::Signs(n) => counted(n as u64),
-            Refusal::Kind(n) => counted(n as u64),
-            Refusal::FeedEnd(n) => counted(n as u64),
-            Refusal::Fraction(n) => counted(n as u64),
+            Refusal::Length(n) => n as i128,
+            Refusal::Subframe(n) => n as i128,
+            Refusal::LimitChoice(n) => n as i128,
+            Refusal::OpenLoopLag(n) => n as i128,
+            Refusal::Order(n) => n as i128,
+            Refusal::RelativeIndex(n) => n as i128,
+            Refusal::PulseLag(n) => n as i128,
+            Refusal::Exponent(e) => e as i128,
+            Refusal::Positions(n) => n as i128,
+            Refusal::Signs(n) => n as i128,
+            Refusal::Kind(n) => n as i128,
+            Refusal::FeedEnd(n) => n as i128,
+            Refusal::Fraction(n) => n as i128,
         }
     }
 }
 
 // The number and the detail, as the program prints them.
 impl fmt::Display for Refusal {
+    ghost output = { λ refusal. Some (in_text refusal) };
+
     fn fmt<W: fmt::Write>(&self, f: &mut fmt::Formatter<W>) -> fmt::Result {
         let number = self.number();
         let detail = self.detail();
@@ -102,36 +111,10 @@ impl fmt::Display for Refusal {
 
 impl Error for Refusal {}
 
-impl fmt::Display for Detail {
-    fn fmt<W: fmt::Write>(&self, f: &mut fmt::Formatter<W>) -> fmt::Result {
-        let sign = if self.negative { "-" } else { "" };
-        let magnitude = self.magnitude;
-        write!(f, "{sign}{magnitude}")
-    }
-}
-
 // Number 1: a lent list as the array of N words that its stage takes.
 pub fn of_length<const N: usize>(list: &[i16]) -> Result<&[i16; N], Refusal>
     ensures ok { IfOk result (λ words. (length list.now ≡ N) × (words.now ≡ list.now)) }
     ensures err { IfErr result (λ refusal. (refusal ≡ Refusal.Length (length list.now)) × (length list.now ≡ N → ⊥)) }
 {
     list.as_array().ok_or(Refusal::Length(list.len()))
-}
-
-fn counted(n: u64) -> Detail
-    ensures { result ≡ sign_magnitude (pos n) }
-{
-    Detail {
-        negative: false,
-        magnitude: n,
-    }
-}
-
-fn signed(v: i16) -> Detail
-    ensures { result ≡ sign_magnitude v }
-{
-    Detail {
-        negative: v < 0,
-        magnitude: v.unsigned_abs() as u64,
-    }
 }

@@ -9,6 +9,11 @@ mod records;
 
 use std::io::{self, BufReader, BufWriter, Read, Write};
 
+// A record's kind; every other is of the pitch gain and the gain row.
+const OPERATOR: u8 = 0;
+
+const PULSES: u8 = 1;
+
 // An answer that can't be written is missing from the output, which is compared.
 fn main(rt: HostRuntime) {
     let _ = replay(&rt);
@@ -19,21 +24,18 @@ fn replay(rt: &HostRuntime) -> io::Result<()> {
     let mut output = BufWriter::new(rt.alloc(), rt.stdout())?;
     output.write_all(b"mr74 replay\n")?;
     for _ in 0..u64::MAX {
-        if step(&mut input, &mut output)?.is_none() {
+        if step(&mut input, &mut output).is_err() {
             break;
         }
     }
     output.flush()
 }
 
-// None where the input ends. A record: a byte for its kind, and what the kind's file reads. High bytes first.
-fn step<R: Read, W: Write>(input: &mut R, output: &mut W) -> io::Result<Option<()>> {
-    let Some(kind) = records::byte(input) else {
-        return Ok(None);
-    };
-    match kind {
-        0 => operators::step(input, output),
-        1 => pulses::step(input, output),
+// A record: a byte for its kind, and what the kind's file reads. High bytes first. The end of the input is an error of its read.
+fn step<R: Read, W: Write>(input: &mut R, output: &mut W) -> io::Result<()> {
+    match records::byte(input)? {
+        OPERATOR => operators::step(input, output),
+        PULSES => pulses::step(input, output),
         _ => gain_rows::step(input, output),
     }
 }

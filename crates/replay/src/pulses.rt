@@ -1,4 +1,4 @@
-// Pulses. A byte, 0 for a reading, of two words; else a search: the numbers of its target and impulse words, lag, gain, and these words.
+// Pulses. A byte, 0 for a reading, of two words; else a search: the counts of its target and impulse words, lag, gain, and these words.
 use crate::records;
 use codebook::Places;
 use codebook_code::PulseWords;
@@ -7,53 +7,35 @@ use std::io::{self, Read, Write};
 
 const READING: u8 = 0;
 
-pub(crate) fn step<R: Read, W: Write>(input: &mut R, output: &mut W) -> io::Result<Option<()>> {
-    let Some(kind) = records::byte(input) else {
-        return Ok(None);
-    };
-    if kind == READING {
-        return reading(input, output);
+pub(crate) fn step<R: Read, W: Write>(input: &mut R, output: &mut W) -> io::Result<()> {
+    match records::byte(input)? {
+        READING => reading(input, output),
+        _ => search(input, output),
     }
-    search(input, output)
 }
 
-fn reading<R: Read, W: Write>(input: &mut R, output: &mut W) -> io::Result<Option<()>> {
-    let Some(words) = records::bytes::<R, 4>(input) else {
-        return Ok(None);
-    };
-    let [a, b, c, d] = words;
+fn reading<R: Read, W: Write>(input: &mut R, output: &mut W) -> io::Result<()> {
+    let [a, b, c, d] = records::bytes::<R, 4>(input)?;
+    let positions = u16::from_be_bytes([a, b]);
+    let signs = u16::from_be_bytes([c, d]);
     let mut samples = [0i16; 40];
-    match codebook::read(
-        u16::from_be_bytes([a, b]),
-        u16::from_be_bytes([c, d]),
-        &mut samples,
-    ) {
-        Ok(places) => {
-            print_places(output, places)?;
-            records::print(output, &samples)
-        }
-        Err(refusal) => write!(output, "refused {refusal}"),
-    }?;
-    output.write_all(b"\n")?;
-    Ok(Some(()))
+    let answer = codebook::read(positions, signs, &mut samples);
+    records::print_answer(output, answer, |output, places| {
+        print_places(output, places)?;
+        records::print(output, &samples)
+    })?;
+    output.write_all(b"\n")
 }
 
-fn search<R: Read, W: Write>(input: &mut R, output: &mut W) -> io::Result<Option<()>> {
-    let Some(head) = records::bytes::<R, 6>(input) else {
-        return Ok(None);
-    };
-    let [targets, impulses, a, b, c, d] = head;
+fn search<R: Read, W: Write>(input: &mut R, output: &mut W) -> io::Result<()> {
+    let [targets, impulses, a, b, c, d] = records::bytes::<R, 6>(input)?;
     let lag = u16::from_be_bytes([a, b]);
     let gain = SharpeningGain(i16::from_be_bytes([c, d]));
-    let first = usize::from(targets);
-    let all = first + usize::from(impulses);
-    let Some(words) = records::words(input, all) else {
-        return Ok(None);
-    };
-    if first <= all && all <= words.len() {
-        print_search(output, &words[..first], &words[first..all], lag, gain)?;
-    }
-    Ok(Some(()))
+    let mut target_room = [0i16; 255];
+    let mut impulse_room = [0i16; 255];
+    let target = records::words(input, targets, &mut target_room)?;
+    let impulse = records::words(input, impulses, &mut impulse_room)?;
+    print_search(output, target, impulse, lag, gain)
 }
 
 fn print_search<W: Write>(
@@ -66,7 +48,7 @@ fn print_search<W: Write>(
     let mut innovation = [0i16; 40];
     let mut filtered = [0i16; 40];
     let mut sharpened = [0i16; 40];
-    match codebook_search::search(
+    let answer = codebook_search::search(
         target,
         impulse,
         lag,
@@ -74,15 +56,13 @@ fn print_search<W: Write>(
         &mut innovation,
         &mut filtered,
         &mut sharpened,
-    ) {
-        Ok(found) => {
-            print_pulses(output, found)?;
-            records::print(output, &innovation)?;
-            records::print(output, &filtered)?;
-            records::print(output, &sharpened)
-        }
-        Err(refusal) => write!(output, "refused {refusal}"),
-    }?;
+    );
+    records::print_answer(output, answer, |output, found| {
+        print_pulses(output, found)?;
+        records::print(output, &innovation)?;
+        records::print(output, &filtered)?;
+        records::print(output, &sharpened)
+    })?;
     output.write_all(b"\n")
 }
 

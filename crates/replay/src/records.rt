@@ -1,32 +1,31 @@
 // What is read of every record, and printed of its answer.
+use refusal::Refusal;
 use std::fmt::Display;
 use std::io::{self, Read, Write};
 
-// The most words that a record has.
-const WORDS: usize = 255;
-
-// The next N bytes; none where the input has fewer. A read that fails is its end.
-pub(crate) fn bytes<R: Read, const N: usize>(input: &mut R) -> Option<[u8; N]> {
+// The next N bytes.
+pub(crate) fn bytes<R: Read, const N: usize>(input: &mut R) -> io::Result<[u8; N]> {
     let mut bytes = [0u8; N];
-    input.read_exact(&mut bytes).ok()?;
-    Some(bytes)
+    input.read_exact(&mut bytes)?;
+    Ok(bytes)
 }
 
-pub(crate) fn byte<R: Read>(input: &mut R) -> Option<u8> {
-    let one: [u8; 1] = bytes(input)?;
-    Some(one[0])
+pub(crate) fn byte<R: Read>(input: &mut R) -> io::Result<u8> {
+    let [byte] = bytes::<R, 1>(input)?;
+    Ok(byte)
 }
 
-// The words of a record, zeros behind them; none where the input has fewer, or a record can't have so many.
-pub(crate) fn words<R: Read>(input: &mut R, count: usize) -> Option<[i16; 255]> {
-    if WORDS < count {
-        return None;
-    }
+// The next words, as many as a byte says.
+pub(crate) fn words<'a, R: Read>(
+    input: &mut R,
+    count: u8,
+    room: &'a mut [i16; 255],
+) -> io::Result<&'a [i16]> {
+    let words = &mut room[..usize::from(count)];
     let mut bytes = [0u8; 510];
-    input.read_exact(&mut bytes[..2 * count]).ok()?;
-    let mut words = [0i16; WORDS];
-    feed::read_words(&bytes, 0, &mut words);
-    Some(words)
+    input.read_exact(&mut bytes[..2 * words.len()])?;
+    feed::read_words(&bytes, 0, words);
+    Ok(words)
 }
 
 // Each number behind a space.
@@ -35,4 +34,18 @@ pub(crate) fn print<W: Write, T: Display>(output: &mut W, numbers: &[T]) -> io::
         write!(output, " {number}")?;
     }
     Ok(())
+}
+
+// What was accepted, by its own printing, or the refusal.
+pub(crate) fn print_answer<W: Write, A, F: FnOnce(&mut W, A) -> io::Result<()>>(
+    output: &mut W,
+    answer: Result<A, Refusal>,
+    print_accepted: F,
+) -> io::Result<()>
+    requires { F.IsAlwaysCallable print_accepted }
+{
+    match answer {
+        Ok(accepted) => print_accepted(output, accepted),
+        Err(refusal) => write!(output, "refused {refusal}"),
+    }
 }

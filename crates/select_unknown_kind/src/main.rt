@@ -2,5 +2,5 @@
 #![tactic(auto)]
 
 fn main(rt: HostRuntime) {
-    feed_lines::print(&mut rt.stdin(), &mut rt.stdout(), &mut rt.stderr());
+    let _ = feed_lines::print(&mut rt.stdin(), &mut rt.stdout(), &mut rt.stderr());
 }

@@ -1,5 +1,5 @@
 -- 01, 'Feed and program': one step on a record of a feed.
-use Rattle.std.specs.Prelude.{List, ℕ, zero, suc, ℤ}
+use Rattle.std.specs.Prelude.{Option, List, ℕ, zero, suc, ℤ}
 use Rattle.refusal.specs.declared.Step.{Step as Answered}
 use Rattle.refusal.specs.Refused.{Told, values, refused}
 use Rattle.refusal.specs.Checks.{Outcome}
@@ -32,7 +32,7 @@ abbrev pub selection_of : List ℤ → Search → Reader → Selection
 selection_of history searcher reader = record { detector = record { history_q0 = history }; searcher = searcher; reader = reader }
 
 -- the struct so told, with the two lent lists after it
-abbrev pub told_lent : Answered Answer ClosedLoop → List ℤ → List ℤ → Step
+abbrev pub told_lent : Answered (Option Answer) ClosedLoop → List ℤ → List ℤ → Step
 told_lent r history ws = record { answer = told_answer r.answer ws; after = selection_of history r.after.searcher r.after.reader; words = ws }
 
 -- an answer, with what stays

@@ -3,6 +3,8 @@
 
 ghost use Rattle.std.specs.Prelude.{◌≡◌};
 ghost use Rattle.feed.specs.Records.{kind_number};
+ghost use Rattle.lag_reader.specs.Readers.{fresh_reader};
+ghost use Rattle.pitch_search.specs.Searches.{fresh_search};
 ghost use Rattle.selection.specs.Steps.{selection_of, told_lent, of_kind, step_lent};
 
 use feed::Kind;
@@ -18,6 +20,17 @@ pub struct ClosedLoop {
     pub reader: Reader,
 }
 
+impl ClosedLoop {
+    pub fn fresh() -> Self
+        ensures { result ≡ record { searcher = fresh_search; reader = fresh_reader } }
+    {
+        ClosedLoop {
+            searcher: Search::fresh(),
+            reader: Reader::fresh(),
+        }
+    }
+}
+
 // A half frame and a reset write the detector's old words, a filtering record the words beside the answer; a refusal writes neither.
 #[tactic(auto, unfolding(crate::specs::Steps::step_lent))]
 pub fn step_lent(
@@ -26,7 +39,7 @@ pub fn step_lent(
     words: &mut [i16; 160],
     feed: &[u8],
     at: usize,
-) -> Step<Answer, ClosedLoop>
+) -> Step<Option<Answer>, ClosedLoop>
     ensures { told_lent result history_q0.new words.new ≡ step_lent (selection_of history_q0.old ends.searcher ends.reader) words.old feed.now at }
 {
     match feed::header_at(feed, at) {
@@ -38,13 +51,10 @@ pub fn step_lent(
             feed::body_at(feed, at),
         ),
         Ok(None) => Step {
-            answer: Ok(Answer::End),
+            answer: Ok(None),
             after: ends,
         },
-        Err(refusal) => Step {
-            answer: Err(refusal),
-            after: ends,
-        },
+        Err(refusal) => Step::refused(refusal, ends),
     }
 }
 
@@ -56,18 +66,15 @@ fn taken(
     words: &mut [i16; 160],
     kind: Kind,
     body: &[u8],
-) -> Step<Answer, ClosedLoop>
+) -> Step<Option<Answer>, ClosedLoop>
     ensures { told_lent result history_q0.new words.new ≡ of_kind (selection_of history_q0.old ends.searcher ends.reader) words.old (kind_number kind) body.now }
 {
     match kind {
         Kind::Reset => {
             *history_q0 = [0; 143];
             Step {
-                answer: Ok(Answer::Reset),
-                after: ClosedLoop {
-                    searcher: Search::fresh(),
-                    reader: Reader::fresh(),
-                },
+                answer: Ok(Some(Answer::Reset)),
+                after: ClosedLoop::fresh(),
             }
         }
         Kind::HalfFrame => Step {
@@ -80,7 +87,7 @@ fn taken(
                 answer: step.answer,
                 after: ClosedLoop {
                     searcher: step.after,
-                    reader: ends.reader,
+                    ..ends
                 },
             }
         }
@@ -101,8 +108,8 @@ fn taken(
             Step {
                 answer: step.answer,
                 after: ClosedLoop {
-                    searcher: ends.searcher,
                     reader: step.after,
+                    ..ends
                 },
             }
         }

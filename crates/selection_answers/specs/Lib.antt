@@ -1,3 +1,2 @@
 -- 01, 'Feed and program': what the contracts of `selection_answers` cite.
-pub mod Fields
 pub mod Lines

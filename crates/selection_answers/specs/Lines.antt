@@ -1,5 +1,5 @@
 -- 01, 'Feed and program': what a record answers, as the program prints it.
-use Rattle.std.specs.Prelude.{Result, List, [], ◌∷◌, ℕ, ◌+◌, ◌-◌, ◌*◌, ◌/◌, ℤ, pos}
+use Rattle.std.specs.Prelude.{Option, Some, None, Result, List, [], ◌∷◌, ℕ, ◌+◌, ◌-◌, ◌*◌, ◌/◌, ℤ, pos}
 use Rattle.refusal.specs.Refused.{Told, put, told}
 use Rattle.refusal.specs.declared.Refusal.{Refusal}
 use Rattle.pitch.specs.declared.PitchLag.{PitchLag}
@@ -8,7 +8,7 @@ use Rattle.pitch_search.specs.declared.SearchedPitch.{SearchedPitch}
 use Rattle.codebook_code.specs.declared.PulseWords.{PulseWords}
 use Rattle.gain.specs.declared.QuantizedGain.{QuantizedGain}
 use Rattle.selection_answers.specs.declared.Answer.{Answer}
-use Rattle.selection_answers.specs.declared.Answer.TheVariants.{End, Reset, Open, Pitch, Pulses, Gain, Filter, Lag}
+use Rattle.selection_answers.specs.declared.Answer.TheVariants.{Reset, Open, Pitch, Pulses, Gain, Filter, Lag}
 
 -- 'per record its number, a name and fields': the kind stands for the name. Where the feed ends there is no record and no line
 pub data Line : Type 0 where
@@ -53,15 +53,19 @@ lag_line l = line 6 (lag_fields l (hertz l))
 
 -- an answer, with the words that stand beside it
 abbrev pub line_of : Answer → List ℤ → Line
-line_of End words = none
 line_of Reset words = reset_line
-line_of (Open lag) words = open_line lag
+line_of (Open lag) words = open_line lag.0
 line_of (Pitch index l h) words = line 2 (pos index ∷ lag_fields l h)
 line_of (Pulses w) words = pulse_line w
 line_of (Gain q) words = gain_line q
 line_of Filter words = filter_line words
 line_of (Lag l h) words = line 6 (lag_fields l h)
 
+-- or no answer: the feed ends there, or a body has not its kind's length
+abbrev pub line_or_none : Option Answer → List ℤ → Line
+line_or_none None words = none
+line_or_none (Some a) words = line_of a words
+
 -- or a refusal, as 01 gives them
-abbrev pub told_answer : Result Answer Refusal → List ℤ → Told Line
-told_answer r words = put (λ a. line_of a words) (told r)
+abbrev pub told_answer : Result (Option Answer) Refusal → List ℤ → Told Line
+told_answer r words = put (λ a. line_or_none a words) (told r)

@@ -1,5 +1,4 @@
 -- The laws that belong to no one function.
-pub mod Joinings
 pub mod Keepings
 pub mod Orders
 pub mod Readings

@@ -1,5 +1,5 @@
 -- 01, 'Feed and program': what a record of each kind but the reset answers, from the stages' own definitions on the words of its body.
-use Rattle.std.specs.Prelude.{Result, cond, List, ◌++◌, ℕ, eqb, ℤ, pos, length, get_or, replicate}
+use Rattle.std.specs.Prelude.{Option, Result, cond, List, ◌++◌, ℕ, eqb, ℤ, pos, length, get_or, replicate}
 use Rattle.refusal.specs.declared.Refusal.{Refusal}
 use Rattle.refusal.specs.Refused.{Told, values, refused, put}
 use Rattle.refusal.specs.Checks.{Outcome}
@@ -18,7 +18,7 @@ use Rattle.selection_answers.specs.declared.Answer.{Answer}
 use Rattle.selection_answers.specs.Lines.{Line, none, open_line, pitch_line, pulse_line, gain_line, filter_line, lag_line, told_answer}
 
 -- an answer as 01 gives it, with the words beside it, and the state after it
-abbrev pub told_with : {S : Type 0} → Result Answer Refusal → List ℤ → S → Outcome Line S
+abbrev pub told_with : {S : Type 0} → Result (Option Answer) Refusal → List ℤ → S → Outcome Line S
 told_with a ws s = record { answer = told_answer a ws; after = s }
 
 -- a body that has not the kind's length is no record of that kind: no line, and the state as it was

@@ -1,13 +1,12 @@
 // What a record of each kind but the reset answers, from 01, 'Feed and program': its body's words through the stage, and the answer as a line.
-// A body that has not the kind's length is no record: `Answer::End`, and nothing changes.
+// A body that has not the kind's length is no record: no answer, and nothing changes.
 #![tactic(auto)]
 
-ghost use Rattle.std.specs.Prelude.{List, ◌≡◌, ◌+◌, ◌*◌, ◌≤◌, ◌<◌, ℤ, length};
-ghost use Rattle.fixed.specs.Lists.{at};
+ghost use Rattle.std.specs.Prelude.{List, ◌≡◌, ◌+◌, ◌*◌, ◌≤◌, ℤ, length};
 ghost use Rattle.encoder_filtering.specs.Subframes.{lists, prepare};
 ghost use Rattle.feed.specs.Words.{words};
 ghost use Rattle.selection_answers.specs.Lines.{told_answer};
-ghost use Rattle.selection_records.specs.Records.{told_with, in_order, of_filters, zeros, half_frame, pitch, pulse, gain, filtering, lag_reading};
+ghost use Rattle.selection_records.specs.Records.{told_with, of_filters, zeros, half_frame, pitch, pulse, gain, filtering, lag_reading};
 
 use codebook_sharpening::SharpeningGain;
 use lag_reader::Reader;
@@ -18,36 +17,37 @@ use selection_answers::Answer;
 
 // The detector's old words are lent and updated.
 #[tactic(auto, unfolding(crate::specs::Records::half_frame))]
-pub fn half_frame_record(history_q0: &mut [i16; 143], body: &[u8]) -> Result<Answer, Refusal>
+pub fn half_frame_record(
+    history_q0: &mut [i16; 143],
+    body: &[u8],
+) -> Result<Option<Answer>, Refusal>
     ensures { (ws : List ℤ) → told_with result ws (record { history_q0 = history_q0.exit.now }) ≡ half_frame (record { history_q0 = history_q0.entry.now }) body.now }
 {
     if body.len() != 160 {
-        return Ok(Answer::End);
+        return Ok(None);
     }
-    let mut samples = [0i16; 80];
-    feed::read_words(body, 0, &mut samples);
+    let samples = words_at::<80>(body, 0);
     let old = *history_q0;
     let detector = Detector { history_q0: old };
     let step = detector.push(&samples);
     let kept = step.after.history_q0;
     *history_q0 = kept;
-    step.answer.map(Answer::from)
+    step.answer.map(Answer::from).map(Some)
 }
 
 #[tactic(auto, unfolding(crate::specs::Records::pitch))]
-pub fn pitch_record(searcher: Search, body: &[u8]) -> Step<Answer, Search>
+pub fn pitch_record(searcher: Search, body: &[u8]) -> Step<Option<Answer>, Search>
     ensures { (ws : List ℤ) → told_with result.answer ws result.after ≡ pitch searcher body.now }
 {
     if body.len() != 551 {
         return Step {
-            answer: Ok(Answer::End),
+            answer: Ok(None),
             after: searcher,
         };
     }
-    let mut excitation = [0i16; 194];
-    feed::read_words(body, 1, &mut excitation);
-    let target = forty(body, 389);
-    let impulse = forty(body, 469);
+    let excitation = words_at::<194>(body, 1);
+    let target = words_at::<40>(body, 389);
+    let impulse = words_at::<40>(body, 469);
     let step = searcher.search(
         &excitation,
         &target,
@@ -57,20 +57,20 @@ pub fn pitch_record(searcher: Search, body: &[u8]) -> Step<Answer, Search>
         body[0],
     );
     Step {
-        answer: step.answer.map(Answer::from),
+        answer: step.answer.map(Answer::from).map(Some),
         after: step.after,
     }
 }
 
 #[tactic(auto, unfolding(crate::specs::Records::pulse))]
-pub fn pulse_record(body: &[u8]) -> Result<Answer, Refusal>
+pub fn pulse_record(body: &[u8]) -> Result<Option<Answer>, Refusal>
     ensures { (ws : List ℤ) → told_answer result ws ≡ pulse body.now }
 {
     if body.len() != 163 {
-        return Ok(Answer::End);
+        return Ok(None);
     }
-    let target = forty(body, 0);
-    let impulse = forty(body, 80);
+    let target = words_at::<40>(body, 0);
+    let impulse = words_at::<40>(body, 80);
     let mut innovation = [0i16; 40];
     let mut filtered = [0i16; 40];
     let mut sharpened = [0i16; 40];
@@ -83,19 +83,19 @@ pub fn pulse_record(body: &[u8]) -> Result<Answer, Refusal>
         &mut filtered,
         &mut sharpened,
     )?;
-    Ok(Answer::from(found))
+    Ok(Some(Answer::from(found)))
 }
 
 #[tactic(auto, unfolding(crate::specs::Records::gain))]
-pub fn gain_record(body: &[u8]) -> Result<Answer, Refusal>
+pub fn gain_record(body: &[u8]) -> Result<Option<Answer>, Refusal>
     ensures { (ws : List ℤ) → told_answer result ws ≡ gain body.now }
 {
     if body.len() != 245 {
-        return Ok(Answer::End);
+        return Ok(None);
     }
-    let target = forty(body, 0);
-    let adaptive = forty(body, 80);
-    let filtered = forty(body, 160);
+    let target = words_at::<40>(body, 0);
+    let adaptive = words_at::<40>(body, 80);
+    let filtered = words_at::<40>(body, 160);
     let quantized = gain::quantize(
         &target,
         &adaptive,
@@ -104,37 +104,32 @@ pub fn gain_record(body: &[u8]) -> Result<Answer, Refusal>
         u16::from_be_bytes([body[242], body[243]]),
         body[244],
     )?;
-    Ok(Answer::from(quantized))
+    Ok(Some(Answer::from(quantized)))
 }
 
-// The words of a subframe, from a place of the body on.
-fn forty(body: &[u8], from: usize) -> [i16; 40]
-    requires { from + 80 ≤ length body.now }
-    ensures { result ≡ words body.now from 40 }
+// The words of a body from a place on.
+fn words_at<const N: usize>(body: &[u8], from: usize) -> [i16; N]
+    requires { from + 2 * N ≤ length body.now }
+    ensures { result ≡ words body.now from N }
 {
-    let mut list = [0i16; 40];
+    let mut list = [0i16; N];
     feed::read_words(body, from, &mut list);
     list
 }
 
 // The lent words are written where the answer is `Filter`.
 #[tactic(auto, unfolding(crate::specs::Records::filtering))]
-pub fn filtering_record(words: &mut [i16; 160], body: &[u8]) -> Result<Answer, Refusal>
+pub fn filtering_record(words: &mut [i16; 160], body: &[u8]) -> Result<Option<Answer>, Refusal>
     ensures { told_with result words.new words.new ≡ filtering words.old body.now }
 {
     if body.len() != 184 {
-        return Ok(Answer::End);
+        return Ok(None);
     }
-    let mut speech = [0i16; 50];
-    let mut coefficients = [0i16; 11];
-    let mut quantized = [0i16; 11];
-    let mut errors = [0i16; 10];
-    let mut weighting = [0i16; 10];
-    feed::read_words(body, 0, &mut speech);
-    feed::read_words(body, 100, &mut coefficients);
-    feed::read_words(body, 122, &mut quantized);
-    feed::read_words(body, 144, &mut errors);
-    feed::read_words(body, 164, &mut weighting);
+    let speech = words_at::<50>(body, 0);
+    let coefficients = words_at::<11>(body, 100);
+    let quantized = words_at::<11>(body, 122);
+    let errors = words_at::<10>(body, 144);
+    let weighting = words_at::<10>(body, 164);
     prepared(
         words,
         &speech,
@@ -152,7 +147,7 @@ fn prepared(
     quantized: &[i16],
     errors: &[i16],
     weighting: &[i16],
-) -> Result<Answer, Refusal>
+) -> Result<Option<Answer>, Refusal>
     ensures { told_with result words.new words.new ≡ of_filters words.old (prepare speech.now coefficients.now quantized.now errors.now weighting.now (lists zeros zeros zeros zeros)) }
 {
     let mut residual = [0i16; 40];
@@ -170,57 +165,23 @@ fn prepared(
         &mut target,
         &mut error,
     )?;
-    *words = joined(&residual, &impulse, &target, &error);
-    Ok(Answer::Filter)
-}
-
-fn joined(
-    residual: &[i16; 40],
-    impulse: &[i16; 40],
-    target: &[i16; 40],
-    error: &[i16; 40],
-) -> [i16; 160]
-    requires { (length residual.now ≡ 40) × (length impulse.now ≡ 40) × (length target.now ≡ 40) × (length error.now ≡ 40) }
-    ensures { result ≡ in_order (lists residual.now impulse.now target.now error.now) }
-{
-    std::array::from_fn(|i| joined_at(residual, impulse, target, error, i))
-}
-
-fn joined_at(
-    residual: &[i16; 40],
-    impulse: &[i16; 40],
-    target: &[i16; 40],
-    error: &[i16; 40],
-    i: usize,
-) -> i16
-    requires { (length residual.now ≡ 40) × (length impulse.now ≡ 40) × (length target.now ≡ 40) × (i < 160) }
-    ensures { result ≡ at (in_order (lists residual.now impulse.now target.now error.now)) i }
-{
-    if i < 40 {
-        return residual[i];
-    }
-    if i < 80 {
-        return impulse[i - 40];
-    }
-    if i < 120 {
-        return target[i - 80];
-    }
-    error[i - 120]
+    words.copy_from_slice([residual, impulse, target, error].as_flattened());
+    Ok(Some(Answer::Filter))
 }
 
 #[tactic(auto, unfolding(crate::specs::Records::lag_reading))]
-pub fn lag_record(reader: Reader, body: &[u8]) -> Step<Answer, Reader>
+pub fn lag_record(reader: Reader, body: &[u8]) -> Step<Option<Answer>, Reader>
     ensures { (ws : List ℤ) → told_with result.answer ws result.after ≡ lag_reading reader body.now }
 {
     if body.len() != 2 {
         return Step {
-            answer: Ok(Answer::End),
+            answer: Ok(None),
             after: reader,
         };
     }
     let step = reader.read(body[0], body[1]);
     Step {
-        answer: step.answer.map(Answer::from),
+        answer: step.answer.map(Answer::from).map(Some),
         after: step.after,
     }
 }

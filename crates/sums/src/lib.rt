@@ -76,7 +76,7 @@ pub fn energy_and_sum40(x: &[i16; 40], y: &[i16; 40]) -> EnergyAndSum
     }
     EnergyAndSum {
         energy: held_energy(energy),
-        sum: sum,
+        sum,
     }
 }
 
@@ -105,8 +105,8 @@ fn never_clips(input: &[i16; 40], impulse: &[i16; 40]) -> bool
 }
 
 // The greatest magnitude of a list.
-pub fn peak(list: &[i16; 40]) -> u16
-    ensures { result ≡ peak (at list.now) 40 }
+pub fn peak<const N: usize>(list: &[i16; N]) -> u16
+    ensures { result ≡ peak (at list.now) N }
 {
     let mut most: u16 = 0;
     for word in list {
@@ -132,11 +132,7 @@ fn plain_sums(input: &[i16; 40], impulse: &[i16; 40]) -> [i32; 40]
     ensures { result ≡ tabulate (convolution input.now impulse.now) 40 }
 {
     let reversed = reversed(impulse);
-    let mut sums = [0i32; 40];
-    for n in 0..40 {
-        sums[n] = plain_sum(input, &reversed, 39 - n);
-    }
-    sums
+    std::array::from_fn(|n| plain_sum(input, &reversed, 39 - n))
 }
 
 // From its last word to its first, and 40 zeros.
@@ -144,9 +140,7 @@ fn reversed(impulse: &[i16; 40]) -> [i16; 80]
     ensures { result ≡ tabulate (between (λ j. at impulse.now (39 - j)) (λ j. pos 0) 0 40) 80 }
 {
     let mut list = [0i16; 80];
-    for j in 0..40 {
-        list[j] = impulse[39 - j];
-    }
+    list[..40].copy_from_slice(&reversed40(impulse));
     list
 }
 

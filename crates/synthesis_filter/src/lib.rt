@@ -7,11 +7,7 @@ ghost use Rattle.fixed.specs.Lists.{at, part};
 ghost use Rattle.synthesis_filter.specs.Synthesis.{less_past, with_past, synthesis};
 ghost use Rattle.synthesis_filter.specs.Plain.{magnitudes, weighed, Below};
 
-const SUBFRAME_SAMPLES: usize = 40;
-
-const LPC_ORDER: usize = 10;
-
-const COEFFICIENTS: usize = 11;
+use fixed::sizes::{COEFFICIENTS, LPC_ORDER, SUBFRAME_SAMPLES};
 
 const BUFFER_SAMPLES: usize = 50;
 
@@ -45,12 +41,8 @@ fn with_past(
     ensures { samples.new ≡ with_past coefficients.now excitation.now past.now }
 {
     let reach = reach(coefficients);
-    let mut peak: u16 = 0;
-    for i in 0..LPC_ORDER {
-        let sample = past[i];
-        samples[i] = sample;
-        peak = peak.max(sample.unsigned_abs());
-    }
+    samples[..LPC_ORDER].copy_from_slice(past);
+    let mut peak = sums::peak(past);
     for n in 0..SUBFRAME_SAMPLES {
         let before = Before {
             samples,

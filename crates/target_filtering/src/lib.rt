@@ -6,11 +6,7 @@ ghost use Rattle.fixed.specs.Lists.{part};
 ghost use Rattle.synthesis_filter.specs.Synthesis.{Syn_filt};
 ghost use Rattle.target_filtering.specs.Subframes.{impulse_response, target_of, subframePreProc, prepared};
 
-const SUBFRAME_SAMPLES: usize = 40;
-
-const LPC_ORDER: usize = 10;
-
-const COEFFICIENTS: usize = 11;
+use fixed::sizes::{COEFFICIENTS, LPC_ORDER, SUBFRAME_SAMPLES};
 
 const GAMMA_ONE_Q15: [i16; 10] = [
     30802, 28954, 27217, 25584, 24049, 22606, 21250, 19975, 18777, 17650,

@@ -10,5 +10,5 @@ use Rattle.feed.proofs.swap_all.Goals as goal
 pub returns : goal.returns
 returns c =
     let old = c.args.list.now in
-    filled_all (λ k. swapped (at old k)) (pos 0) (length old) c.loop-i.list c.loop-i.invariant.0
-    (λ k l. c.loop-i.invariant.2 k l ∙ rw (le-leb 0 k (omega arith), lt-ltb k c.loop-i.i (omega arith)))
+    filled_all (λ k. swapped (at old k)) (pos 0) (length old) c.loop-word.word-items c.loop-word.invariant.0
+    (λ k l. c.loop-word.invariant.1 k l ∙ rw (le-leb 0 k (omega arith), lt-ltb k c.loop-word.word-index (omega arith)))

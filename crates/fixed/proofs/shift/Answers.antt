@@ -1,6 +1,8 @@
 use Rattle.std.proofs.lemmas.Bool.{leb-true}
-use mathlib.Core.Path.{◌∙◌}
-use Prim.Native.Nat.{◌≤◌}
+use mathlib.Core.Path.{◌≡◌, ◌∙◌}
+use Prim.Native.Nat.{◌≤◌, ◌^◌}
+use Rattle.std.proofs.Math.Nat.{min-eq_left}
+use lib.IntN.{pos}
 use native.Mathlib.Omega.{arith}
 use mir.Syntax.{w64}
 use mir.Facts.{to_z-of_z}
@@ -23,7 +25,8 @@ overflow_mul-wide g c =
     let v = of_bits _ c.wide-2.result (leb-true _ _ o.width) c.wide-2.ensures.bound in
     let w = fits_32_64 v in
     let h : c.min-places.result ≤ 31 = rw c.min-places.ensures (omega arith) in
-    simp (to_z-of_z, got w64 c.power_of_two.type_inv c.power_of_two.ensures) (left_fits c.min-places.result v h)
+    let p : c.power_of_two.result ≡ pos (2 ^ c.min-places.result) = rw (min-eq_left h) at c.power_of_two.ensures in
+    simp (to_z-of_z, got w64 c.power_of_two.type_inv p) (left_fits c.min-places.result v h)
 
 pub returns : goal.returns
 returns g c =
@@ -33,6 +36,7 @@ returns g c =
     let w = fits_32_64 v in
     let h : c.min-places.result ≤ 31 = rw c.min-places.ensures (omega arith) in
     let l = left_fits c.min-places.result v h in
-    let e = simp (to_z-of_z, got w64 c.power_of_two.type_inv c.power_of_two.ensures) at c.clip-2.ensures in
+    let p : c.power_of_two.result ≡ pos (2 ^ c.min-places.result) = rw (min-eq_left h) at c.power_of_two.ensures in
+    let e = simp (to_z-of_z, got w64 c.power_of_two.type_inv p) at c.clip-2.ensures in
     rw (c.wide-2.ensures.value, c.min-places.ensures, c.unsigned_abs.ensures.value, to_z-of_z n) at e
     ∙ left_at _ _ _ (leb-true _ _ o.width) (rw c.wide-2.ensures.value at c.wide-2.ensures.bound) (simp to_z-of_z at c.if-n-lt0.false)

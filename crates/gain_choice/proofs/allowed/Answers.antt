@@ -1,47 +1,42 @@
 use mathlib.Core.Path.{◌≡◌, ap, ◌∙◌}
 use mathlib.Core.Bool.{cond}
 use mathlib.Core.List.{List}
-use Prim.Native.Nat.{ℕ, ◌<◌}
+use Prim.Native.Nat.{ℕ, zero, suc, ◌<◌, ◌≤◌}
 use lib.IntN.{ℤ, pos}
+use lib.ListN.{length, set}
 use lib.Seq.{get_or-set_same, get_or-set_other}
-use lib.Signed.{mag}
+use lib.Signed.{mag, le_z}
 use native.Mathlib.Omega.{arith}
-use mir.Syntax.{w16, w32}
+use mir.Syntax.{w32}
 use mir.Val.{SFits, to_z, of_z}
-use mir.Facts.{to_z-of_z}
-use borrow.Author.Count.{below_more}
 use borrow.Author.Rules.{rules}
-use Rattle.fixed.specs.Lists.{at}
-use Rattle.fixed.proofs.Bounds.{got}
-use Rattle.fixed.proofs.Lists.{at_tabulate, filling_more}
+use Rattle.fixed.specs.Lists.{at, tabulate}
+use Rattle.fixed.proofs.Lists.{at_tabulate}
+use Rattle.fixed.proofs.Made.{made}
 use Rattle.gain_table.specs.Rows.{cell, column}
 use Rattle.gain_choice.specs.Rows.{within_limit}
 use Rattle.gain_choice.proofs.Passes.{without_limit}
 use Rattle.gain_choice.proofs.allowed.Goals as goal
 
-pub loop-i-preserved : goal.loop-i-preserved
-unfolding column
-loop-i-preserved c =
-    let far = c.args.far.now in
-    let i = c.loop-i.i in
-    let b : SFits w32 (at far i) = search rules in
-    let p : to_z w16 (of_z w16 (at c.pitches-pitches.result i)) ≡ at c.pitches-pitches.result i = search rules in
-    let q : at c.pitches-pitches.result i ≡ cell 0 i = ap (λ (l : List ℤ). at l i) c.pitches-pitches.ensures ∙ at_tabulate (cell 0) (pos 0) 128 i (omega arith) in
-    record {
-      filling =
-          filling_more (λ k. cond (within_limit (to_z w16 (of_z w16 c.args.limit_q14)) k) (at far k) (pos 2147483647)) 128 i c.loop-i.distances _ (omega arith)
-          (rw (got w32 c.within.type_inv c.within.ensures, to_z-of_z b, p, q))
-          c.loop-i.invariant.filling;
-      long = below_more (λ (k : ℕ). mag (at far k) < 2147483648) i c.loop-i.invariant.long b.sfits;
-    }
+-- longs, and a long in place of the first
+small : (xs : List ℤ) (v : ℤ) → 0 < length xs → mag v < 2147483648 → ((k : ℕ) → k < 128 → SFits w32 (at xs k)) →
+    (k : ℕ) → k ≤ 127 → mag (at (set xs 0 v) k) < 2147483648
+small xs v l s w zero h = rw (get_or-set_same xs 0 v (pos 0) l) s
+small xs v l s w (suc k) h = rw (get_or-set_other xs 0 (suc k) v (pos 0) (λ (e : suc k ≡ 0). absurd (omega arith))) (w (suc k) (omega arith)).sfits
 
 pub returns : goal.returns
+unfolding column
 returns c =
     let far = c.args.far.now in
-    let xs = c.loop-i.distances in
-    let v = c.loop-i.invariant in
+    let xs = c.from_fn-distances.result in
+    let f : ℕ → ℤ = λ k. cond (le_z (at c.args.pitches_q14.now k) c.args.limit_q14) (at far k) (pos 2147483647) in
+    let m : xs ≡ tabulate f 128 = made _ (pos 0) f 128 _ (λ k r f' l h. search rules) _ c.from_fn-distances.ensures.items in
     let x : to_z w32 (of_z w32 (at far 0)) ≡ at far 0 = search rules in
+    let n : length xs ≡ 128 = c.from_fn-distances.ensures.items.long in
+    let p : (k : ℕ) → k ≤ 127 → at c.args.pitches_q14.now k ≡ cell 0 k = λ k l. ap (λ (ys : List ℤ). at ys k) c.requires ∙ at_tabulate (cell 0) (pos 0) 128 k (omega arith) in
+    let w : (k : ℕ) → k < 128 → SFits w32 (at xs k) = λ k l. (let h = c.from_fn-distances.ensures.items.at k (pos 0) l in search rules) in
+    let b : SFits w32 (at far 0) = search rules in
     rw x
-    (without_limit (within_limit c.args.limit_q14) (at far) _ (get_or-set_same xs 0 (at far 0) (pos 0) (omega (arith, v.filling.1))) 127
-    (λ k z l. get_or-set_other xs 0 k (at far 0) (pos 0) (λ (e : k ≡ 0). absurd (omega arith)) ∙ rw (to_z-of_z c.ranges.limit_q14) at (v.filling.2 k (omega arith)))
-    (λ k l. v.long k (omega arith)))
+    (without_limit (within_limit c.args.limit_q14) (at far) _ (get_or-set_same xs 0 (at far 0) (pos 0) (omega arith)) 127
+    (λ k z l. get_or-set_other xs 0 k (at far 0) (pos 0) (λ (e : k ≡ 0). absurd (omega arith)) ∙ ap (λ (ys : List ℤ). at ys k) m ∙ at_tabulate f (pos 0) 128 k (omega arith) ∙ rw (p k l))
+    (small xs (at far 0) (omega arith) b.sfits w))

@@ -17,7 +17,6 @@ returns c =
     rw (
       c.on_one_scale-list.ensures,
       c.raised.ensures,
-      c.adaptive_energy.ensures,
       c.raised-2.ensures,
       c.adaptive_correlation.ensures,
       c.raised-3.ensures,

@@ -1,4 +1,4 @@
-use mathlib.Core.Path.{◌≡◌, refl, ◌∙◌}
+use mathlib.Core.Path.{◌≡◌, ◌∙◌}
 use Prim.Native.Nat.{◌+◌, ◌-◌, ◌<◌}
 use native.Mathlib.Omega.{arith}
 use borrow.Author.Rules.{rules}
@@ -6,16 +6,12 @@ use lib.IntN.{ℤ, pos}
 use lib.ListN.{length-set}
 use mir.Syntax.{w16, w32}
 use mir.Val.{to_z, of_z}
-use Rattle.fixed.specs.Lists.{at, L_sum}
+use Rattle.fixed.specs.Lists.{at}
 use Rattle.fixed.proofs.Bounds.{got}
-use Rattle.fixed.proofs.Lists.{filled_all, placed_more, at_end, zeros}
-use Rattle.open_loop_correlation.specs.Correlations.{products, correlation}
+use Rattle.fixed.proofs.Lists.{filled_all, placed_more, at_end}
+use Rattle.open_loop_correlation.specs.Correlations.{correlation}
 use Rattle.open_loop_correlation.proofs.Lags.{grown, products_more}
 use Rattle.open_loop_correlation.proofs.four_at.Goals as goal
-
-pub loop-i-init : goal.loop-i-init
-unfolding products L_sum
-loop-i-init c = (refl, zeros 4)
 
 pub loop-n-preserved : goal.loop-n-preserved
 loop-n-preserved c =

@@ -1,4 +1,4 @@
-use mathlib.Core.Path.{◌≡◌, refl, ◌∙◌}
+use mathlib.Core.Path.{◌≡◌, ◌∙◌}
 use Prim.Native.Nat.{◌+◌, ◌-◌}
 use native.Mathlib.Omega.{arith}
 use native.Mathlib.Numerals.{add-one}
@@ -13,10 +13,6 @@ use Rattle.sums.specs.Plain.{plain}
 use Rattle.open_loop_correlation.proofs.Energies.{half, half_fits, whole_fits, whole_is}
 use Rattle.open_loop_correlation.proofs.plain_at.Goals as goal
 use Rattle.open_loop_correlation.proofs.plain_at.Goals.{After-exact-sum, After-loop-i}
-
-pub loop-i-init : goal.loop-i-init
-unfolding plain
-loop-i-init c = refl
 
 -- the sum with the product that is taken in
 more : (c : After-exact-sum) → to_z w32 c.loop-i.sum-bits +ℤ to_z w32 (of_z w32 c.exact-sum.result) ≡ half c.args.words.now c.args.lag (c.loop-i.i + 1)

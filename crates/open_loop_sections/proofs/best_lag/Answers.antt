@@ -1,4 +1,4 @@
-use mathlib.Core.Path.{◌≡◌, refl, sym, ◌∙◌}
+use mathlib.Core.Path.{◌≡◌, sym, ◌∙◌}
 use mathlib.Core.Bool.{true, false}
 use Prim.Native.Nat.{suc, ◌+◌}
 use native.Mathlib.Omega.{arith}
@@ -6,14 +6,10 @@ use borrow.Author.Rules.{rules}
 use lib.Signed.{lt_z}
 use mir.Syntax.{w32}
 use mir.Val.{to_z, of_z}
-use Rattle.fixed.specs.Lists.{at, best}
+use Rattle.fixed.specs.Lists.{at}
 use Rattle.fixed.proofs.Choices.{best_more}
 use Rattle.open_loop_sections.proofs.best_lag.Goals as goal
 use Rattle.open_loop_sections.proofs.best_lag.Goals.{then-table-lag, else-table-lag}
-
-pub loop-i-init : goal.loop-i-init
-unfolding best
-loop-i-init c = (omega arith, refl)
 
 pub loop-i-preserved : goal.loop-i-preserved
 loop-i-preserved c =

@@ -20,19 +20,6 @@ use Rattle.open_loop_sections.proofs.section.Goals as goal
 short : (ts : List ℤ) (low span lag : ℕ) → lag ≡ best lt_z (at ts) low span → low + span ≤ 143 → lag ≤ 143
 short ts low span lag e h = omega (arith, (best_in lt_z (at ts) low span).1)
 
-pub overflow_sub-lag : goal.overflow_sub-lag
-overflow_sub-lag c = short c.args.table.now c.args.low c.args.span c.best_lag-lag.result c.best_lag-lag.ensures c.requires.2
-
-pub offset_bounds-table-lag : goal.offset_bounds-table-lag
-offset_bounds-table-lag c =
-    let h : c.best_lag-lag.result ≤ 143 = short c.args.table.now c.args.low c.args.span c.best_lag-lag.result c.best_lag-lag.ensures c.requires.2 in
-    search rules
-
-pub bounds-table-lag : goal.bounds-table-lag
-bounds-table-lag c =
-    let h : c.best_lag-lag.result ≤ 143 = short c.args.table.now c.args.low c.args.span c.best_lag-lag.result c.best_lag-lag.ensures c.requires.2 in
-    omega arith
-
 pub returns : goal.returns
 unfolding value_at long_at delayed_energy
 returns c =

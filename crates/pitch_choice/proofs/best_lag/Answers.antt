@@ -1,23 +1,19 @@
-use Rattle.std.proofs.Common.{◌≡◌, ◌+◌, suc, true, false, refl, sym, ◌∙◌, arith}
+use Rattle.std.proofs.Common.{◌≡◌, ◌+◌, suc, true, false, sym, ◌∙◌, arith}
 use mir.Syntax.{w16}
 use mir.Val.{to_z, of_z}
 use borrow.Author.Rules.{rules}
 use Rattle.std.specs.Int.Signed.{le_z}
-use Rattle.fixed.specs.Lists.{at, best}
+use Rattle.fixed.specs.Lists.{at}
 use Rattle.fixed.proofs.Choices.{best_more}
 use Rattle.pitch_choice.specs.Choices.{best_lag}
 use Rattle.pitch_choice.proofs.best_lag.Goals as goal
 use Rattle.pitch_choice.proofs.best_lag.Goals.{then-correlation-next, else-correlation-next}
 
-pub loop-i-init : goal.loop-i-init
-unfolding best_lag best
-loop-i-init c = (omega arith, refl)
-
 pub loop-i-preserved : goal.loop-i-preserved
 unfolding best_lag
 loop-i-preserved c =
     let cs = c.args.correlation.now in
-    let start = c.args.start in
+    let start = c.args.window.start in
     let lag = c.loop-i.lag in
     let i = c.loop-i.i in
     let e = c.loop-i.invariant.1 in

@@ -1,15 +1,10 @@
-use Rattle.std.proofs.Common.{arith}
-use Rattle.std.proofs.Common.{◌≡◌, ◌-◌, ◌+◌, ◌*◌, refl, add-one}
+use Rattle.std.proofs.Common.{◌≡◌, ◌-◌, ◌+◌, ◌*◌, add-one}
 use mir.Syntax.{w16, w32}
 use mir.Val.{to_z, of_z}
 use borrow.Author.Rules.{rules}
 use Rattle.fixed.specs.Lists.{at}
-use Rattle.pitch_choice.specs.Choices.{interpolated_to, Interpol_6}
+use Rattle.pitch_choice.specs.Choices.{interpolated_to}
 use Rattle.pitch_choice.proofs.interpolated.Goals as goal
-
-pub loop-i-init : goal.loop-i-init
-unfolding interpolated_to
-loop-i-init c = refl
 
 pub loop-i-preserved : goal.loop-i-preserved
 unfolding interpolated_to
@@ -26,10 +21,3 @@ loop-i-preserved c =
     let v : to_z w16 (of_z w16 (at cs (place + 1 + i))) ≡ at cs (place + 1 + i) = search rules in
     let w : to_z w16 (of_z w16 (at t (6 - phase + 6 * i))) ≡ at t (6 - phase + 6 * i) = search rules in
     rw (add-one i, r, c.mac-sum-in-loop-i.ensures, q, c.mac-sum.ensures, x, y, v, w, c.loop-i.invariant, c.requires.0)
-
-pub returns : goal.returns
-unfolding Interpol_6
-returns c =
-    let e : c.loop-i.i ≡ 4 = omega arith in
-    let r : to_z w16 (of_z w16 c.rounded.result) ≡ c.rounded.result = search rules in
-    rw (r, c.rounded.ensures, c.loop-i.invariant, e)

@@ -1,4 +1,4 @@
-use mathlib.Core.Path.{◌≡◌, refl, ◌∙◌}
+use mathlib.Core.Path.{◌≡◌, ◌∙◌}
 use mathlib.Core.List.{List}
 use Prim.Native.Nat.{ℕ, suc, ◌≤◌, ◌<◌, ◌+◌, ◌^◌}
 use native.Mathlib.Omega.{arith}
@@ -8,7 +8,7 @@ use lib.IntN.{ℤ, pos, nat_abs, ◌+ℤ◌, ◌*ℤ◌}
 use mir.Syntax.{w32}
 use mir.Val.{SFits, to_z, of_z}
 use mir.Facts.{to_z-of_z}
-use Rattle.fixed.specs.Lists.{at, L_sum, dot}
+use Rattle.fixed.specs.Lists.{at, dot}
 use Rattle.fixed.proofs.Bounds.{got, fits_abs}
 use Rattle.sums.specs.Plain.{weighed}
 use Rattle.sums.proofs.Reaches.{clipped_le, weighed_more, half_more}
@@ -31,10 +31,6 @@ module _ (xs ys : List ℤ) (below : weighed (at xs) (at ys) 40 < 2 ^ 30) where
 
   next : (n : ℕ) (z p : ℤ) → n < 40 → p ≡ at xs n *ℤ at ys n → pos 2 *ℤ z ≡ dot xs ys n → pos 2 *ℤ to_z w32 (of_z w32 (z +ℤ p)) ≡ dot xs ys (n + 1)
   next n z p l f e = rw (add-one n, to_z-of_z (fits n z p l f e), f) (one_more n z l e).1
-
-pub loop-i-init : goal.loop-i-init
-unfolding dot L_sum
-loop-i-init c = (refl, refl)
 
 pub overflow_add-energy : goal.overflow_add-energy
 overflow_add-energy c =

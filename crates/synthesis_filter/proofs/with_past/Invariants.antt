@@ -8,8 +8,5 @@ use Rattle.synthesis_filter.specs.Plain.{Below}
 use Rattle.synthesis_filter.specs.Synthesis.{put_out}
 use Rattle.synthesis_filter.proofs.with_past.Given as goal
 
-abbrev pub invariant-loop-i : goal.invariant-loop-i
-invariant-loop-i l = (length l.samples ≡ 50) × Filled (at l.past) (pos 0) l.i l.samples × Below l.samples l.i l.peak
-
 abbrev pub invariant-loop-n : goal.invariant-loop-n
 invariant-loop-n l = (length l.samples ≡ 50) × Filled (at (put_out l.coefficients l.excitation l.past l.n)) (pos 0) (10 + l.n) l.samples × Below l.samples (10 + l.n) l.peak

@@ -1,20 +1,12 @@
-use mathlib.Core.Path.{◌≡◌, refl, ap, ◌∙◌}
-use mathlib.Core.List.{List, [], ◌∷◌, ◌++◌}
-use Prim.Native.Nat.{ℕ, zero, suc, ◌+◌}
+use mathlib.Core.Path.{◌≡◌, ap, ◌∙◌}
+use mathlib.Core.List.{◌++◌}
+use Prim.Native.Nat.{◌+◌}
 use native.Mathlib.Omega.{arith}
-use lib.IntN.{ℤ, pos}
+use lib.IntN.{pos}
 use lib.ListN.{replicate, length-append}
 use Rattle.fixed.specs.Lists.{at, part}
-use Rattle.fixed.proofs.Lists.{filled_all}
+use Rattle.fixed.proofs.Lists.{filled_all, zeros_after}
 use Rattle.target_filtering.proofs.extended.Goals as goal
-
--- a list reads 0 past its end, and so zeros after it change no place
-zeros_after : (xs : List ℤ) (n k : ℕ) → at (xs ++ replicate n (pos 0)) k ≡ at xs k
-zeros_after [] zero k = refl
-zeros_after [] (suc n) zero = refl
-zeros_after [] (suc n) (suc k) = zeros_after [] n k
-zeros_after (x ∷ xs) n zero = refl
-zeros_after (x ∷ xs) n (suc k) = zeros_after xs n k
 
 pub returns : goal.returns
 unfolding part

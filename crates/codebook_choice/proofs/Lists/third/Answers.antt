@@ -1,8 +1,6 @@
-use Rattle.std.proofs.Common.{◌≡◌, ℕ, ℤ, [], ◌+◌, ◌*◌, pos, w16, rules, to_z, of_z}
-use Rattle.fixed.specs.Operators.{add, mult}
-use Rattle.fixed.specs.Lists.{at, tabulate}
-use Rattle.fixed.proofs.Lists.{at_tabulate}
-use Rattle.fixed.proofs.Made.{made}
+use Rattle.std.proofs.Common.{◌≡◌, pos, w16, rules, to_z, of_z}
+use Rattle.fixed.specs.Operators.{L_mult, L_mac}
+use Rattle.codebook_matrix.specs.Matrices.{cell}
 use Rattle.codebook_steps.specs.Steps.{step_to}
 use Rattle.codebook_choice.specs.Choices.{third_at}
 use Rattle.codebook_choice.proofs.Lists.third.Goals as goal
@@ -10,10 +8,9 @@ use Rattle.codebook_choice.proofs.Lists.third.Goals as goal
 pub returns : goal.returns
 unfolding third_at step_to
 returns c =
-    let a = c.args in
-    let l = a.self in
-    let s : to_z w16 (of_z w16 a.one.sum) ≡ a.one.sum = search rules in
-    let q : ℕ → ℤ = λ n. mult (add a.one.sum (at l.correlation.now (a.track + 5 * n))) (add a.one.sum (at l.correlation.now (a.track + 5 * n))) in
-    let e : ℕ → ℤ = λ n. (third_at [] l.table.now a.first a.one (a.track + 5 * n)).energy in
-    let es : c.from_fn-energies.result ≡ tabulate e 8 = made _ (pos 0) e 8 _ (λ k r f' l h. search rules) _ c.from_fn-energies.ensures.items in
-    c.best.ensures (third_at l.correlation.now l.table.now a.first a.one) (λ n h. rw (c.squares-squares.ensures, c.step-sum.ensures, s, es, at_tabulate q (pos 0) 8 n h, at_tabulate e (pos 0) 8 n h))
+    let m = c.args.self.table.now in
+    let one = c.args.one in
+    let s : to_z w16 (of_z w16 one.sum) ≡ one.sum = search rules in
+    rw (c.step-sum.ensures, s) at c.chosen.ensures
+    (λ q. L_mac (L_mac (L_mac (L_mult one.energy (pos 8192)) (cell m q q) (pos 2048)) (cell m one.place q) (pos 4096)) (cell m c.args.first q) (pos 4096))
+    (λ n e l h. search rules)

@@ -1,84 +1,78 @@
-use mathlib.Core.Path.{◌≡◌, refl, ap, ◌∙◌}
-use mathlib.Core.List.{List, []}
+use mathlib.Core.Path.{◌≡◌, refl, sym, ◌∙◌}
+use mathlib.Core.List.{List}
 use Prim.Native.Nat.{ℕ}
-use lib.IntN.{ℤ, pos}
-use lib.ListN.{length, replicate}
-use Rattle.std.proofs.Common.{Result, Ok, Err}
-use Rattle.fixed.proofs.Lists.{copied_whole}
+use lib.IntN.{ℤ}
+use lib.ListN.{length}
+use Rattle.std.proofs.Common.{Option, Result, Ok, Err, rules}
 use Rattle.refusal.specs.declared.Refusal.{Refusal}
-use Rattle.lag_reader.specs.declared.Reader.{Reader}
-use Rattle.pitch_search.specs.declared.Search.{Search}
+use Rattle.refusal.specs.declared.Step.{Step as Answered}
+use Rattle.refusal.specs.Refused.{number, detail, values, refused, told}
+use Rattle.refusal.specs.Checks.{Check, checked}
 use Rattle.pitch_state.specs.declared.PitchState.{PitchState}
 use Rattle.pitch_state.specs.States.{searcher_of, reader_of}
+use Rattle.feed.specs.Records.{header, body}
 use Rattle.selection_answers.specs.declared.Answer.{Answer}
-use Rattle.selection_answers.specs.declared.Answer.TheVariants.{End, Reset, Open, Pitch, Pulses, Gain, Filter, Lag}
-use Rattle.selection_answers.specs.Fields.{fields_of}
 use Rattle.selection_answers.specs.Lines.{told_answer}
-use Rattle.refusal.specs.declared.Step.{Step as Answered}
 use Rattle.selection.specs.declared.ClosedLoop.{ClosedLoop}
 use Rattle.selection.specs.Steps.{Step, selection_of, told_lent, step_lent}
 use Rattle.mr74.specs.declared.steps.StepAnswer.{StepAnswer}
-use Rattle.mr74.specs.Steps.{StepInNumbers, stepped, of_step}
-use Rattle.mr74.proofs.Lengths.{step_kept}
+use Rattle.mr74.specs.Fields.{fields_of}
+use Rattle.mr74.specs.Steps.{subframes_at, step_answer, StepInNumbers, stepped, of_step, step_in_numbers}
+use Rattle.mr74.proofs.Checkings.{refused_by, accepted_by}
 use Rattle.mr74.proofs.steps.lent_step.Goals as goal
-use Rattle.mr74.proofs.steps.lent_step.Goals.{After-stepped}
 
--- the words beside an answer are no part of its fields
-words_apart : (a : Result Answer Refusal) (ws : List ℤ) → fields_of (told_answer a []) ≡ fields_of (told_answer a ws)
-words_apart (Ok End) ws = refl
-words_apart (Ok Reset) ws = refl
-words_apart (Ok (Open l)) ws = refl
-words_apart (Ok (Pitch i l h)) ws = refl
-words_apart (Ok (Pulses w)) ws = refl
-words_apart (Ok (Gain q)) ws = refl
-words_apart (Ok Filter) ws = refl
-words_apart (Ok (Lag l h)) ws = refl
-words_apart (Err r) ws = refl
-
--- so an answered step, and the lists that go back, have the numbers of the step that it is
-same_numbers : (searcher reader : PitchState) (r : Answered Answer ClosedLoop) (history words : List ℤ) (s : Step) → told_lent r history words ≡ s →
-    {a : StepAnswer} {h w : List ℤ} → a ≡ stepped (told_answer r.answer []) r.after.searcher r.after.reader searcher reader → h ≡ history → w ≡ words →
+-- an answered step, and the lists that go back, have the numbers of the step that it is
+same_numbers : (searcher reader : PitchState) (r : Answered (Option Answer) ClosedLoop) (history words : List ℤ) (s : Step) → told_lent r history words ≡ s →
+    {a : StepAnswer} {h w : List ℤ} → ((ws : List ℤ) → a ≡ stepped (told_answer r.answer ws) r.after.searcher r.after.reader searcher reader) → h ≡ history → w ≡ words →
     ◌≡◌ {A = StepInNumbers} (record { answer = a; history = h; words = w }) (of_step searcher reader s)
-same_numbers searcher reader r history words s e f g h = rw (f, g, h, ← e, words_apart r.answer words)
+same_numbers searcher reader r history words s e f g h = rw (f words, g, h, ← e)
 
-abbrev stepped_on : List ℕ → ℕ → PitchState → PitchState → List ℤ → List ℤ → Step
-stepped_on feed at searcher reader history words = step_lent (selection_of history (searcher_of searcher) (reader_of reader)) words feed at
+same_step : {h h' w w' : List ℤ} {e e' : ClosedLoop} (feed : List ℕ) (at : ℕ) → h ≡ h' → w ≡ w' → e ≡ e' →
+    step_lent (selection_of h e.searcher e.reader) w feed at ≡ step_lent (selection_of h' e'.searcher e'.reader) w' feed at
+same_step feed at a b c = rw (a, b, c)
 
-same_step : {h h' w w' : List ℤ} {s s' : Search} {r r' : Reader} (feed : List ℕ) (at : ℕ) → h ≡ h' → w ≡ w' → s ≡ s' → r ≡ r' →
-    step_lent (selection_of h s r) w feed at ≡ step_lent (selection_of h' s' r') w' feed at
-same_step feed at a b c d = rw (a, b, c, d)
+module _ (feed : List ℕ) (at : ℕ) (searcher reader : PitchState) (history words : List ℤ) where
+  abbrev subframes : List Check
+  subframes = subframes_at (header feed at) (body feed at) searcher reader
 
--- what `step_lent` did with the copies
-module _ (c : After-stepped) where
-  abbrev new_history : List ℤ
-  new_history = c.step_lent-step.new.history_q0
+  abbrev as_lent : ℕ → ℤ → StepInNumbers
+  as_lent n d = record { answer = step_answer (fields_of (refused n d)) searcher reader; history = history; words = words }
 
-  abbrev new_words : List ℤ
-  new_words = c.step_lent-step.new.words
+  abbrev step : Step
+  step = step_lent (selection_of history (searcher_of searcher) (reader_of reader)) words feed at
 
-  did : told_lent c.step_lent-step.result new_history new_words
-      ≡ stepped_on c.args.feed.now c.args.at c.args.searcher c.args.reader c.args.history_q0.now c.args.words.now
-  did =
-      c.step_lent-step.ensures
-      ∙ same_step c.args.feed.now c.args.at
-      (c.copy.ensures ∙ copied_whole 143 c.args.history_q0.now (replicate 143 (pos 0)) c.requires.0 refl)
-      (c.copy-2.ensures ∙ copied_whole 160 c.args.words.now (replicate 160 (pos 0)) c.requires.1 refl)
-      c.from.ensures
-      c.from-2.ensures
+  -- two lists of the lengths that are needed: number 2 is left
+  lengths_pass : length history ≡ 143 → length words ≡ 160 →
+      step_in_numbers feed at searcher reader history words ≡ checked subframes as_lent (of_step searcher reader step)
+  unfolding step_in_numbers
+  lengths_pass h w = rw (h, w)
 
-  abbrev kept : (length (stepped_on c.args.feed.now c.args.at c.args.searcher c.args.reader c.args.history_q0.now c.args.words.now).after.detector.history_q0 ≡ 143)
-      × (length (stepped_on c.args.feed.now c.args.at c.args.searcher c.args.reader c.args.history_q0.now c.args.words.now).words ≡ 160)
-  kept = step_kept (selection_of c.args.history_q0.now (searcher_of c.args.searcher) (reader_of c.args.reader)) c.args.words.now c.requires.0 c.requires.1 c.args.feed.now c.args.at
+  module _ (h : length history ≡ 143) (w : length words ≡ 160) (r : Result (Unit {0}) Refusal) (e : told r ≡ checked subframes refused (values tt)) where
+    refused_call : {f : Refusal} → r ≡ Err f → step_in_numbers feed at searcher reader history words ≡ as_lent (number f) (detail f)
+    refused_call g = lengths_pass h w ∙ refused_by as_lent (of_step searcher reader step) subframes r e g
 
-  new_history_is : length new_history ≡ 143
-  new_history_is = ap (λ (t : Step). length t.after.detector.history_q0) did ∙ kept.0
+    taken_on : {u : Unit {0}} → r ≡ Ok u → step_in_numbers feed at searcher reader history words ≡ of_step searcher reader step
+    taken_on g = lengths_pass h w ∙ accepted_by as_lent (of_step searcher reader step) subframes r e g
 
-  new_words_are : length new_words ≡ 160
-  new_words_are = ap (λ (t : Step). length t.words) did ∙ kept.1
+pub returns-in_err-known_at : goal.returns-in_err-known_at
+returns-in_err-known_at c =
+    let a = c.args in
+    let h : length a.history_q0.now ≡ 143 = search rules in
+    let w : length a.words.now ≡ 160 = search rules in
+    let i : c.in_ok-history.history.now ≡ a.history_q0.now = search rules in
+    let j : c.in_ok-lent.lent.now ≡ a.words.now = search rules in
+    let t = refused_call a.feed.now a.at a.given.searcher a.given.reader a.history_q0.now a.words.now h w _ c.known_at.ensures (c.in_err-known_at.was {u = tt}) in
+    let f : c.from_residual-in_err-known_at.result ≡ Err c.in_err-known_at.field-0.0 = search rules in
+    rw (t, f, i, j)
 
 pub returns : goal.returns
 returns c =
     let a = c.args in
-    same_numbers a.searcher a.reader c.step_lent-step.result (new_history c) (new_words c) _ (did c) c.stepped.ensures
-    (c.copy-3.ensures ∙ copied_whole 143 (new_history c) a.history_q0.now (new_history_is c) c.requires.0)
-    (c.copy-4.ensures ∙ copied_whole 160 (new_words c) a.words.now (new_words_are c) c.requires.1)
+    let h : length a.history_q0.now ≡ 143 = search rules in
+    let w : length a.words.now ≡ 160 = search rules in
+    let i : c.in_ok-history.history.now ≡ a.history_q0.now = search rules in
+    let j : c.in_ok-lent.lent.now ≡ a.words.now = search rules in
+    let t = taken_on a.feed.now a.at a.given.searcher a.given.reader a.history_q0.now a.words.now h w _ c.known_at.ensures (c.in_ok-known_at.was {u = tt}) in
+    let s = c.step_lent-step in
+    let did = s.ensures ∙ same_step a.feed.now a.at i j c.from-ends.ensures in
+    same_numbers a.given.searcher a.given.reader s.result s.new.history_q0 s.new.words _ did c.stepped.ensures refl refl ∙ sym t

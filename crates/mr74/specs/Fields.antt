@@ -1,9 +1,20 @@
 -- What a record answers, in numbers.
-use Rattle.std.specs.Prelude.{false, cond, ℕ, eqb, ℤ, pos}
+use Rattle.std.specs.Prelude.{Bool, false, cond, ℕ, eqb, ℤ, pos}
 use Rattle.fixed.specs.Lists.{at}
-use Rattle.refusal.specs.Refused.{Told, values, refused, sign_magnitude}
-use Rattle.selection_answers.specs.declared.Fields.{Fields}
+use Rattle.refusal.specs.Refused.{Told, values, refused}
 use Rattle.selection_answers.specs.Lines.{Line, none, line}
+use Rattle.mr74.specs.Details.{sign_magnitude}
+
+-- the fields of a line, zeros behind the last
+pub record Fields : Type 0 where
+  pub number : ℕ
+  pub negative : Bool
+  pub magnitude : ℕ
+  pub line : ℕ
+  pub first : ℤ
+  pub second : ℤ
+  pub third : ℤ
+  pub fourth : ℤ
 
 -- number 0, the kind and four fields, or a refusal's number and detail and zeros
 abbrev pub accepted_line : ℕ → ℤ → ℤ → ℤ → ℤ → Fields
