@@ -18,7 +18,8 @@
  *        1  a list has another length than its stage needs                    the first such length
  *        2  a subframe, that of a call or the one expected next, is outside
  *           1 to 4, or a limit is not 0 or 1                                  that number
- *        3  an open-loop lag is outside 20 to 143                             the first such lag
+ *        3  an open-loop lag is outside 20 to 143, or above 120 for a
+ *           player's searcher                                                 the first such lag
  *        4  the subframe is not the one expected next                         the expected one
  *        5  a relative pitch index is above 31                                the index
  *        6  the pulse stage's lag is outside 19 to 144                        the lag
@@ -115,28 +116,39 @@ typedef struct {
 mr74_open_loop_answer mr74_open_loop(const int16_t *samples_q0, size_t samples_length,
                                      int16_t *history_q0, size_t history_length);
 
-/* The same number, where it is an open-loop lag. Refuses by 3. */
+/* The same number, where it is an open-loop lag, 20 to 143. Refuses by 3. */
 mr74_open_loop_answer mr74_open_loop_lag(uint16_t samples);
 
 /* ---- Closed loop ---- */
+
+/* The upper lags: the largest open-loop lag of an announcement player and of a handset. */
+enum { MR74_PLAYER_LAG = 120, MR74_HANDSET_LAG = 143 };
 
 /*
  * A searcher or a lag reader. Calls take any numbers: no answer depends on the fraction or on the
  * start, and a `next` outside 1 to 4 is refused by 2, directly after the call's own subframe. A
  * refused call hands back the numbers that it was given, whatever they are.
  *
+ * `upper` is the upper lag: MR74_PLAYER_LAG is an announcement player's, and every other number is
+ * taken as a handset's. mr74_fresh_player and mr74_fresh_pitch set it. After an accepted search or
+ * reading, and after a reset, it is MR74_PLAYER_LAG or MR74_HANDSET_LAG. A reader recovers what a
+ * searcher sends if both were made with the same upper lag.
+ *
  * `start` tells which window a lag came from. After an accepted search it is the first whole lag
  * that was searched: the first open-loop lag less 3 in subframe 1 and the second less 3 in 3, both
- * held to 20 to 137; the whole lag of the subframe before less 5 in 2 and 4, held to 20 to 134. The
- * whole lag that the search answers lies between start - 1 and start + 10.
+ * held to 20 to 137, or to 20 to 114 for a player; the whole lag of the subframe before less 5 in 2
+ * and 4, held to 20 to 134, or to 20 to 111 for a player. The whole lag that the search answers
+ * lies between start - 1 and start + 10.
  * After an accepted reading it is the start that the reader used in subframes 2 and 4, by the same
  * rule, and 0 in 1 and 3. Where a subframe 2 or 4 directly follows an index that arrived as it was
- * sent, reader and searcher have the same start after it, even if its own index is damaged.
+ * sent, a reader and a searcher with the same upper lag have the same start after it, even if its
+ * own index is damaged.
  */
 typedef struct {
     uint16_t samples; /* the lag before: whole samples .. */
     int16_t fraction; /* .. and thirds, -1, 0 or 1 */
     uint8_t next;     /* the subframe expected, 1 to 4 */
+    uint8_t upper;    /* 120 for a player; any other number for a handset */
     uint16_t start;   /* of the last window, 0 when fresh */
 } mr74_pitch_state;
 
@@ -149,16 +161,20 @@ typedef struct {
     uint16_t previous_samples; /* the searcher or reader after the call */
     int16_t previous_fraction;
     uint8_t next;
+    uint8_t upper;
     uint16_t start;
 } mr74_pitch_answer;
 
-/* A fresh searcher or reader: lag 40, expecting subframe 1, start 0. */
+/* A fresh searcher or reader of a handset: lag 40, expecting subframe 1, upper lag 143, start 0. */
 mr74_pitch_state mr74_fresh_pitch(void);
+
+/* The same of an announcement player: upper lag 120. */
+mr74_pitch_state mr74_fresh_player(void);
 
 /*
  * The lag and the index of a subframe. Reads MR74_EXCITATION words of excitation, target and
  * impulse response (MR74_SUBFRAME each), both open-loop lags of the frame and the subframe's
- * number. Refuses by 1, 2, 3 and 4.
+ * number. Refuses by 1, 2, 3 and 4: by 3 either open-loop lag, in every subframe.
  */
 mr74_pitch_answer mr74_pitch_search(mr74_pitch_state searcher,
                                     const int16_t *excitation_q0, size_t excitation_length,
@@ -166,14 +182,18 @@ mr74_pitch_answer mr74_pitch_search(mr74_pitch_state searcher,
                                     const int16_t *impulse_q12, size_t impulse_length,
                                     uint16_t first_lag, uint16_t second_lag, uint8_t subframe);
 
-/* The lag that a sent index stands for. Refuses by 2, 4 and, in subframes 2 and 4, 5. */
+/*
+ * The lag that a sent index stands for. Refuses by 2, 4 and, in subframes 2 and 4, 5. In subframes
+ * 1 and 3 a player's reader takes every index too: it reads 233 to 255, which no player's searcher
+ * sends, as the lags 121 to 143.
+ */
 mr74_pitch_answer mr74_read_lag(mr74_pitch_state reader, uint8_t subframe, uint8_t index);
 
 /* What the searcher or the reader is after a call. */
 static inline mr74_pitch_state mr74_pitch_after(const mr74_pitch_answer *answer)
 {
     mr74_pitch_state after = {answer->previous_samples, answer->previous_fraction, answer->next,
-                              answer->start};
+                              answer->upper, answer->start};
     return after;
 }
 
@@ -328,19 +348,38 @@ typedef struct {
     uint16_t searcher_samples; /* searcher and reader after the step */
     int16_t searcher_fraction;
     uint8_t searcher_next;
+    uint8_t searcher_upper;
     uint16_t searcher_start;
     uint16_t reader_samples;
     int16_t reader_fraction;
     uint8_t reader_next;
+    uint8_t reader_upper;
     uint16_t reader_start;
 } mr74_step_answer;
+
+/* What the searcher and the reader are after a step. */
+static inline mr74_pitch_state mr74_searcher_after(const mr74_step_answer *answer)
+{
+    mr74_pitch_state after = {answer->searcher_samples, answer->searcher_fraction,
+                              answer->searcher_next, answer->searcher_upper,
+                              answer->searcher_start};
+    return after;
+}
+
+static inline mr74_pitch_state mr74_reader_after(const mr74_step_answer *answer)
+{
+    mr74_pitch_state after = {answer->reader_samples, answer->reader_fraction, answer->reader_next,
+                              answer->reader_upper, answer->reader_start};
+    return after;
+}
 
 /*
  * Runs the record at a place of a feed: its stage, or the reset. The detector's MR74_HISTORY words
  * are updated. The other list takes the MR74_FILTER_WORDS words of a filtering record; every other
  * record, and a refused one, leaves it as it was. Only a pitch record looks at the subframe that
  * the searcher expects, and only a lag reading at the reader's. A reset makes both fresh, whatever
- * they were; a state that a record does not use is handed back as it was given.
+ * they were, and each keeps its upper lag; a state that a record does not use is handed back as it
+ * was given.
  * The last field of a pitch record, the fourth, and of a lag reading, the third, is the pitch in
  * hertz: 24000 / (3 * lag + fraction), with the lag and the fraction that stand before it.
  * Refuses by 1 (history, then words), 9 and 10, then as the record's stage does: 2 to 7 and 14.
@@ -360,9 +399,10 @@ mr74_step_answer mr74_step(const uint8_t *feed, size_t feed_length, size_t at,
 MR74_LAYOUT(sizeof(void *) == 8 && sizeof(size_t) == 8 && sizeof(bool) == 1);
 MR74_LAYOUT(sizeof(mr74_length_answer) == 16);
 MR74_LAYOUT(sizeof(mr74_open_loop_answer) == 24);
-MR74_LAYOUT(sizeof(mr74_pitch_state) == 8 && offsetof(mr74_pitch_state, start) == 6);
+MR74_LAYOUT(sizeof(mr74_pitch_state) == 8 && offsetof(mr74_pitch_state, upper) == 5 &&
+            offsetof(mr74_pitch_state, start) == 6);
 MR74_LAYOUT(sizeof(mr74_pitch_answer) == 32 && offsetof(mr74_pitch_answer, next) == 26 &&
-            offsetof(mr74_pitch_answer, start) == 28);
+            offsetof(mr74_pitch_answer, upper) == 27 && offsetof(mr74_pitch_answer, start) == 28);
 MR74_LAYOUT(sizeof(mr74_sharpening_gain) == 2);
 MR74_LAYOUT(sizeof(mr74_pulses_answer) == 24);
 MR74_LAYOUT(sizeof(mr74_places_answer) == 48);
@@ -373,7 +413,11 @@ MR74_LAYOUT(sizeof(mr74_gain_answer) == 32 && offsetof(mr74_gain_answer, negativ
 MR74_LAYOUT(sizeof(mr74_logarithm) == 4);
 MR74_LAYOUT(sizeof(mr74_power_answer) == 24 && offsetof(mr74_power_answer, value) == 16);
 MR74_LAYOUT(sizeof(mr74_record_answer) == 40 && offsetof(mr74_record_answer, from) == 24);
-MR74_LAYOUT(sizeof(mr74_step_answer) == 56 && offsetof(mr74_step_answer, reader_next) == 48 &&
+MR74_LAYOUT(sizeof(mr74_step_answer) == 56 && offsetof(mr74_step_answer, searcher_next) == 40 &&
+            offsetof(mr74_step_answer, searcher_upper) == 41 &&
+            offsetof(mr74_step_answer, searcher_start) == 42 &&
+            offsetof(mr74_step_answer, reader_next) == 48 &&
+            offsetof(mr74_step_answer, reader_upper) == 49 &&
             offsetof(mr74_step_answer, reader_start) == 50);
 #undef MR74_LAYOUT
 

@@ -3,8 +3,9 @@
 //!
 //! The published files are copied to the output folder as they stand, with the texts of
 //! `REPLACED` replaced so that private functions can be called and private fields read. A second copy
-//! is changed to call the Rust bindings. Nothing of them is kept in this repository but the few
-//! lines that `REPLACED`, `EXPRESSIONS` and adopted.rs name.
+//! is changed to call the Rust bindings, and a third has the player's upper lag. Nothing of them is
+//! kept in this repository but the few lines that `REPLACED`, `PLAYER`, `EXPRESSIONS` and adopted.rs
+//! name.
 
 mod adopted;
 
@@ -110,9 +111,12 @@ impl Analyzer {
     ),
 ];
 
-/// The texts that are replaced: (file, old text, new text, expected number of occurrences).
+/// A text that is replaced: (file, old text, new text, expected number of occurrences).
+type Replaced = (&'static str, &'static str, &'static str, usize);
+
+/// What is replaced in each copy but the one that calls the bindings.
 #[rustfmt::skip]
-const REPLACED: &[(&str, &str, &str, usize)] = &[
+const REPLACED: &[Replaced] = &[
     ("adaptive.rs", "fn mac(", "pub fn mac(", 1),
     ("codebook/search.rs", "fn fix_signs(", "pub fn fix_signs(", 1),
     ("codebook/search.rs", "fn fractional(", "pub fn fractional(", 1),
@@ -186,6 +190,13 @@ const REPLACED: &[(&str, &str, &str, usize)] = &[
     ("postfilter.rs", "pub(super) fn weight(", "pub fn weight(", 1),
     ("spectral.rs", "fn multiply_q15(", "pub fn multiply_q15(", 1),
     ("synthesis.rs", "fn saturated(", "pub fn saturated(", 1),
+];
+
+/// What is replaced besides in the player's copy: the upper lag. The detector of this copy, whose
+/// history has the same length, isn't the codec's.
+#[rustfmt::skip]
+const PLAYER: &[Replaced] = &[
+    ("pitch.rs", "const MAX_SEARCH_LAG_SAMPLES: u16 = 143;", "const MAX_SEARCH_LAG_SAMPLES: u16 = 120;", 1),
 ];
 
 /// A published expression, or some statements, that are no function of their own. The text is cut
@@ -336,7 +347,9 @@ fn compile_published(oracle: &Path, output: &Path) {
         );
     }
 
-    let mut published = copied(&from, &output.join("codec"), replace);
+    let mut published = copied(&from, &output.join("codec"), |file, text| {
+        replace(REPLACED, file, text)
+    });
     for expression in EXPRESSIONS {
         let text = read(&from.join("mr74").join(expression.file));
         published.push_str(&function(expression, &text));
@@ -347,6 +360,12 @@ fn compile_published(oracle: &Path, output: &Path) {
         adopted::changed(file, text).replace("crate::codec", "crate::adopted::codec")
     });
     write(&output.join("adopted.rs"), &adopted);
+
+    let player = copied(&from, &output.join("player"), |file, text| {
+        let text = replace(REPLACED, file, text);
+        replace(PLAYER, file, text).replace("crate::codec", "crate::player::codec")
+    });
+    write(&output.join("player.rs"), &player);
 }
 
 /// Copies the published files, each edited, and gives the declaration of the module that they are.
@@ -408,13 +427,13 @@ fn declared_modules(text: &str, folder: &str) -> Vec<String> {
     modules
 }
 
-fn replace(file: &str, mut text: String) -> String {
-    for (_, old, new, expected) in REPLACED.iter().filter(|entry| entry.0 == file) {
+fn replace(list: &[Replaced], file: &str, mut text: String) -> String {
+    for (_, old, new, expected) in list.iter().filter(|entry| entry.0 == file) {
         let occurrences = text.matches(old).count();
         if occurrences != *expected {
             panic!(
                 "the published mr74/{file} has the text `{old}` {occurrences} times, not \
-                 {expected}: see REPLACED in oracle/build.rs"
+                 {expected}: see REPLACED and PLAYER in oracle/build.rs"
             );
         }
         text = text.replace(old, new);

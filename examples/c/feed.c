@@ -63,10 +63,8 @@ int main(void)
         /* After a bad kind, or a body that is not all there, no record can be found. */
         if (record.number != MR74_ACCEPTED)
             break;
-        searcher = (mr74_pitch_state){answer.searcher_samples, answer.searcher_fraction,
-                                      answer.searcher_next, answer.searcher_start};
-        reader = (mr74_pitch_state){answer.reader_samples, answer.reader_fraction,
-                                    answer.reader_next, answer.reader_start};
+        searcher = mr74_searcher_after(&answer);
+        reader = mr74_reader_after(&answer);
         at = record.from + record.length;
         record = mr74_record(feed, length, at);
     }

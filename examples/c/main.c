@@ -1,7 +1,8 @@
 /*
  * The stages of one subframe, called from C, on silence and on a voiced sound, and both readers on
- * what they send; and a level meter of the gain row, on a sound that fits and on a loud one. Prints
- * each answer, and behind a pitch and a lag the start of its window.
+ * what they send; a level meter of the gain row, on a sound that fits and on a loud one; and the
+ * pitch of an announcement player beside that of a handset. Prints each answer, and behind a pitch
+ * and a lag the start of its window.
  */
 #include "mr74.h"
 
@@ -15,9 +16,10 @@ typedef struct {
     mr74_pitch_state reader;
 } state;
 
-static state fresh(void)
+/* Searcher and reader are made alike: only then does the reader recover what the searcher sends. */
+static state fresh(mr74_pitch_state end)
 {
-    state kept = {{0}, mr74_fresh_pitch(), mr74_fresh_pitch()};
+    state kept = {{0}, end, end};
     return kept;
 }
 
@@ -127,7 +129,7 @@ static void silence(void)
     const int16_t zeros[MR74_EXCITATION] = {0};
     int16_t filtered[MR74_SUBFRAME];
     mr74_sharpening_gain none = {0};
-    state kept = fresh();
+    state kept = fresh(mr74_fresh_pitch());
     uint16_t lag = open_loop(&kept, zeros);
     pitch(&kept, zeros, zeros, zeros, lag, 1);
     pitch(&kept, zeros, zeros, zeros, lag, 2);
@@ -155,7 +157,7 @@ static void voiced(void)
     int16_t target[MR74_SUBFRAME], error[MR74_SUBFRAME];
     int16_t adaptive[MR74_SUBFRAME], filtered[MR74_SUBFRAME];
 
-    state kept = fresh();
+    state kept = fresh(mr74_fresh_pitch());
     uint16_t lag = 0;
     for (int half = 0; half < 2; half++) {
         for (int i = 0; i < MR74_HALF_FRAME; i++)
@@ -199,11 +201,25 @@ static void voiced(void)
     printf("power %d\n", power.value);
 }
 
+/* The largest open-loop lag of a player in subframes 1 and 2, and one more in 3. */
+static void upper_lag(mr74_pitch_state end)
+{
+    const int16_t zeros[MR74_EXCITATION] = {0};
+    state kept = fresh(end);
+    printf("%s\n", end.upper == MR74_PLAYER_LAG ? "player" : "handset");
+    pitch(&kept, zeros, zeros, zeros, MR74_PLAYER_LAG, 1);
+    pitch(&kept, zeros, zeros, zeros, MR74_PLAYER_LAG, 2);
+    /* A player's searcher refuses it, and stays as it is. */
+    pitch(&kept, zeros, zeros, zeros, MR74_PLAYER_LAG + 1, 3);
+}
+
 int main(void)
 {
     silence();
     voiced();
     rising(200);
     rising(800);
+    upper_lag(mr74_fresh_player());
+    upper_lag(mr74_fresh_pitch());
     return 0;
 }

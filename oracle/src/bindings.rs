@@ -1,8 +1,8 @@
 //! The Rust bindings beside the published Rust, by the names and shapes that both have. A value of
 //! one and its namesake of the other are compared as they are shown, so that the names of types and
-//! fields count too. A searcher has a start that the published one has not: it is added where that
-//! one is shown. A pitch gain and a row have counts that the published ones have not, and are
-//! compared by their parts.
+//! fields count too. A searcher has an upper lag and a start that the published one has not: they
+//! are added where that one is shown. A pitch gain and a row have counts that the published ones
+//! have not, and are compared by their parts.
 
 mod parts;
 
@@ -24,6 +24,7 @@ use crate::{
     search::Searcher,
     selection::first,
     subframes::{Refusal, number, read_start, subframe},
+    upper::Upper,
     words::{SUBFRAME, impulse_response, mixed},
 };
 use mr74::{
@@ -96,11 +97,22 @@ fn lists() -> [Function; 6] {
     ]
 }
 
-fn chains() -> [Function; 3] {
+fn chains() -> [Function; 5] {
+    const PLAYER: &str = "upper lag 120, answers and state";
     [
         Function {
             name: "Search",
-            compare: || compare_chains("pitch/search.rs, answers and state", search_chain),
+            compare: || {
+                let chain = |index| search_chain(Upper::Handset, Search::default(), index);
+                compare_chains("pitch/search.rs, answers and state", chain)
+            },
+        },
+        Function {
+            name: "Search",
+            compare: || {
+                let chain = |index| search_chain(Upper::Player, Search::player(), index);
+                compare_chains(PLAYER, chain)
+            },
         },
         Function {
             name: "Detector",
@@ -108,7 +120,17 @@ fn chains() -> [Function; 3] {
         },
         Function {
             name: "LagReader",
-            compare: || compare_chains("pitch.rs, answers and state", reader_chain),
+            compare: || {
+                let chain = |index| reader_chain(Upper::Handset, LagReader::default(), index);
+                compare_chains("pitch.rs, answers and state", chain)
+            },
+        },
+        Function {
+            name: "LagReader",
+            compare: || {
+                let chain = |index| reader_chain(Upper::Player, LagReader::player(), index);
+                compare_chains(PLAYER, chain)
+            },
         },
     ]
 }
@@ -332,12 +354,11 @@ pub fn compare_chains(with: &'static str, chain: fn(u64) -> Vec<Told>) -> Vec<Li
     vec![line]
 }
 
-fn search_chain(index: u64) -> Vec<Told> {
+fn search_chain(upper: Upper, mut ours: Search, index: u64) -> Vec<Told> {
     let mut chain = Chain::at(index, &[]);
-    let mut ours = Search::default();
-    let mut other = Searcher::default();
+    let mut other = Searcher::fresh(upper);
     let mut steps = Vec::new();
-    while let Some(step) = chain.next(&other.search) {
+    while let Some(step) = chain.next(&other) {
         let answers = match step {
             Step::Reset => {
                 ours.reset();
@@ -350,7 +371,7 @@ fn search_chain(index: u64) -> Vec<Told> {
             }
             Step::Search(call) => [
                 told(searched(&mut ours, &call)),
-                told(other.searched(&call)),
+                told(published_searched(&mut other, &call)),
             ],
         };
         let [answer, expected] = answers;
@@ -359,12 +380,22 @@ fn search_chain(index: u64) -> Vec<Told> {
     steps
 }
 
-/// The published search as it is shown, with the start behind its own fields.
+/// The type of a lag admits all of the handset's, and refuses the others before a search does.
+fn published_searched(
+    searcher: &mut Searcher,
+    call: &calls::Call,
+) -> Result<pitch::search::SearchedPitch, Refusal> {
+    Upper::Handset.open_loop(call.open_loop)?;
+    searcher.searched(call)
+}
+
+/// The published search as it is shown, with the upper lag and the start behind its own fields.
 fn shown(searcher: &Searcher) -> String {
     const END: &str = " }";
     let search = told(&searcher.search);
     let fields = search.strip_suffix(END).expect("named fields");
-    format!("{fields}, start: {}{END}", searcher.start)
+    let Searcher { upper, start, .. } = searcher;
+    format!("{fields}, upper: {upper:?}, start: {start}{END}")
 }
 
 fn detector_chain(index: u64) -> Vec<Told> {
@@ -381,9 +412,8 @@ fn detector_chain(index: u64) -> Vec<Told> {
 }
 
 /// Mostly the subframe that is expected, any index.
-fn reader_chain(index: u64) -> Vec<Told> {
+fn reader_chain(upper: Upper, mut ours: LagReader, index: u64) -> Vec<Told> {
     let random = &mut Random::at(index);
-    let mut ours = LagReader::default();
     let mut previous = pitch::search::Search::default().previous;
     let mut expected = 1;
     let mut start = 0;
@@ -395,6 +425,7 @@ fn reader_chain(index: u64) -> Vec<Told> {
         let sent = random.below(34) as u8 + 222 * random.below(2) as u8;
         let answer = ours.read(numbered(asked), sent);
         let published = read(Reading {
+            upper,
             previous,
             expected,
             start,
@@ -408,8 +439,14 @@ fn reader_chain(index: u64) -> Vec<Told> {
         }
         let next = subframe(expected).map(number).expect("a subframe");
         [
-            told((answer, ours.previous, ours.next.number(), ours.start)),
-            told((published, previous, next, start)),
+            told((
+                answer,
+                ours.previous,
+                ours.next.number(),
+                ours.upper,
+                ours.start,
+            )),
+            told((published, previous, next, upper, start)),
         ]
     };
     (0..STEPS).map(step).collect()

@@ -5,6 +5,7 @@ use crate::{
     feed::{self, Record},
     inputs::Random,
     subframes::{Refusal, check_lengths},
+    upper::Upper,
     words::{EXCITATION, SUBFRAME, shortened},
 };
 use std::fmt;
@@ -49,7 +50,7 @@ impl Call {
     }
 
     /// Gives the call one fault or several, so that the order of the checks is seen too.
-    pub fn add_faults(&mut self, random: &mut Random, expected: u8) {
+    pub fn add_faults(&mut self, random: &mut Random, expected: u8, upper: Upper) {
         let faults = 1 + random.below(15);
         if faults & 1 != 0 {
             self.change_lengths(random);
@@ -68,7 +69,7 @@ impl Call {
             let bad = 1 + random.below(3);
             for (place, lag) in self.open_loop.iter_mut().enumerate() {
                 if bad >> place & 1 != 0 {
-                    *lag = bad_lag(random);
+                    *lag = bad_lag(random, upper);
                 }
             }
         }
@@ -89,11 +90,16 @@ impl Call {
     }
 }
 
-/// A number that is no open-loop lag: one beside them, one whose low byte may be a lag, or another.
-fn bad_lag(random: &mut Random) -> u16 {
+/// A number that is no open-loop lag: one beside them, for a player also one of the handset's, one
+/// whose low byte may be a lag, or another.
+fn bad_lag(random: &mut Random, upper: Upper) -> u16 {
+    let above = upper.samples() + 1;
     match random.below(4) {
         0 => 19,
-        1 => 144,
+        1 => match upper {
+            Upper::Handset => above,
+            Upper::Player => above + (random.below(2) * random.below(23)) as u16,
+        },
         2 => 256 + random.below(1 << 15) as u16,
         _ => [0, 1, 18, 145, 255, u16::MAX][random.below(6) as usize],
     }

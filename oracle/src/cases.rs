@@ -5,17 +5,19 @@
 //! functions answer.
 
 use crate::{
-    calls::Lists,
+    calls::{Call, Lists},
     codec::mr74::{
         energy::inverse_sqrt,
         pitch::search::{
-            INTERPOLATOR, OpenLoopLag, Search, SearchedPitch, Subframe, interpolate, multiply,
+            INTERPOLATOR, OpenLoopLag, SearchedPitch, Subframe, interpolate, multiply,
             normalized_correlation, product,
         },
     },
     counts::{Found, cases},
+    search::Searcher,
     subframes::{ABSOLUTE_RADIUS, RELATIVE_RADIUS, Refusal, searched_start, window},
     sums::{Sum, clip32},
+    upper::Upper,
     words::{HISTORY, SUBFRAME},
 };
 
@@ -38,14 +40,22 @@ cases! {
     Relative => "search in subframe 2 or 4",
     Lag19 => "answered lag 19",
     Lag20 => "answered lag 20",
+    Lag120 => "answered lag 120",
+    Lag121 => "answered lag 121, less a third, of index 31",
     Lag143 => "answered lag 143",
     Lag144 => "answered lag 144",
     Index0 => "relative index 0",
     Index31 => "relative index 31",
     AbsoluteRaised => "start raised to 20 in subframe 1 or 3",
     AbsoluteLowered => "start lowered to 137 in subframe 1 or 3",
+    AbsoluteLowered114 => "start lowered to 114 in subframe 1 or 3",
+    Unlowered114 => "start 114 that is not lowered in subframe 1 or 3",
     RelativeRaised => "start raised to 20 in subframe 2 or 4",
     RelativeLowered => "start lowered to 134 in subframe 2 or 4",
+    RelativeLowered111 => "start lowered to 111 in subframe 2 or 4",
+    Unlowered111 => "start 111 that is not lowered in subframe 2 or 4",
+    Centre120 => "window about open-loop lag 120",
+    Beside120 => "open-loop lag 120 taken that no window is about",
     BelowStart => "answered lag start - 1",
     FarAboveStart => "answered lag start + 10",
     AbsoluteBelowStart => "absolute lag start - 1",
@@ -84,6 +94,9 @@ cases! {
     Refusal2 => "refusal 2",
     Refusal3 => "refusal 3",
     Refusal4 => "refusal 4",
+    First121 => "refusal 3 of the first lag, 121",
+    Second121 => "refusal 3 of the second lag, 121",
+    From122 => "refusal 3 of a lag of 122 to 143",
 }
 
 impl Case {
@@ -93,6 +106,20 @@ impl Case {
             2 => Self::Refusal2,
             3 => Self::Refusal3,
             _ => Self::Refusal4,
+        }
+    }
+
+    /// Of a lag above the player's that is refused.
+    pub fn of_refused_lag(refusal: Refusal, call: &Call) -> Option<Self> {
+        let Refusal { number: 3, detail } = refusal else {
+            return None;
+        };
+        let [first, _] = call.open_loop;
+        match detail {
+            121 if first == 121 => Some(Self::First121),
+            121 => Some(Self::Second121),
+            122..=143 => Some(Self::From122),
+            _ => None,
         }
     }
 
@@ -108,6 +135,27 @@ impl Case {
     pub fn needs_feed(self) -> bool {
         matches!(self, Self::Feed | Self::ChangedFeed)
     }
+
+    /// Whether searches of this upper lag meet the case.
+    pub fn is_of(self, upper: Upper) -> bool {
+        match self {
+            Self::Lag143 | Self::Lag144 | Self::AbsoluteLowered | Self::RelativeLowered => {
+                upper == Upper::Handset
+            }
+            Self::Lag120
+            | Self::Lag121
+            | Self::AbsoluteLowered114
+            | Self::Unlowered114
+            | Self::RelativeLowered111
+            | Self::Unlowered111
+            | Self::Centre120
+            | Self::Beside120
+            | Self::First121
+            | Self::Second121
+            | Self::From122 => upper == Upper::Player,
+            _ => true,
+        }
+    }
 }
 
 /// The high word of a long shifted to the left, and whether the shift clipped.
@@ -119,8 +167,8 @@ fn high_of_shifted(value: i32, places: u32) -> (i16, bool) {
 
 /// A search that the published Rust accepted.
 pub struct Searched<'a> {
-    /// The search before the call.
-    pub before: &'a Search,
+    /// The searcher before the call.
+    pub before: &'a Searcher,
     pub lists: Lists<'a>,
     pub open_loop: [OpenLoopLag; 2],
     pub subframe: Subframe,
@@ -170,6 +218,12 @@ impl Searched<'_> {
         assert_eq!(thirds, answered, "the lag that is found here");
         found.case(Case::Lag19, lag.samples() == 19);
         found.case(Case::Lag20, lag.samples() == 20);
+        found.case(Case::Lag120, lag.samples() == 120);
+        let less_a_third = lag.fraction().thirds() == -1;
+        found.case(
+            Case::Lag121,
+            lag.samples() == 121 && less_a_third && index == 31,
+        );
         found.case(Case::Lag143, lag.samples() == 143);
         found.case(Case::Lag144, lag.samples() == 144);
         let relative = !self.subframe.absolute();
@@ -183,12 +237,24 @@ impl Searched<'_> {
         let start = self.start();
         let centre = self.open_loop[self.subframe.half()].samples();
         let unheld = start + ABSOLUTE_RADIUS;
+        let lowered = absolute && unheld < centre;
+        let at_114 = absolute && start == 114;
         found.case(Case::AbsoluteRaised, absolute && unheld > centre);
-        found.case(Case::AbsoluteLowered, absolute && unheld < centre);
-        let centre = self.before.previous.samples();
+        found.case(Case::AbsoluteLowered, lowered);
+        found.case(Case::AbsoluteLowered114, at_114 && lowered);
+        found.case(Case::Unlowered114, at_114 && !lowered);
+        let about_120 = absolute && centre == 120;
+        let any_120 = self.open_loop.iter().any(|lag| lag.samples() == 120);
+        found.case(Case::Centre120, about_120);
+        found.case(Case::Beside120, any_120 && !about_120);
+        let centre = self.before.search.previous.samples();
         let unheld = start + RELATIVE_RADIUS;
+        let lowered = !absolute && unheld < centre;
+        let at_111 = !absolute && start == 111;
         found.case(Case::RelativeRaised, !absolute && unheld > centre);
-        found.case(Case::RelativeLowered, !absolute && unheld < centre);
+        found.case(Case::RelativeLowered, lowered);
+        found.case(Case::RelativeLowered111, at_111 && lowered);
+        found.case(Case::Unlowered111, at_111 && !lowered);
         let lag = self.answer.lag.samples();
         found.case(Case::BelowStart, lag == start - 1);
         found.case(Case::FarAboveStart, lag == start + 10);

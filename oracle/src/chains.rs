@@ -3,10 +3,12 @@
 use crate::{
     calls::{Call, Step},
     cases::Case,
-    codec::mr74::pitch::search::{OpenLoopLag, Search, convolve},
+    codec::mr74::pitch::search::convolve,
     inputs::Random,
+    search::Searcher,
     speech::Speech,
     subframes::{number, window},
+    upper::Upper,
     words::{
         EXCITATION, HISTORY, SUBFRAME, extreme, impulse_response, mixed, quiet, smooth, uniform,
     },
@@ -93,7 +95,7 @@ impl<'a> Chain<'a> {
 
     /// The next step, which may lean on the state that the published search is in. The first is a
     /// reset.
-    pub fn next(&mut self, search: &Search) -> Option<Step> {
+    pub fn next(&mut self, searcher: &Searcher) -> Option<Step> {
         if matches!(self.source, Source::Feed) {
             self.place += 1;
             return self.feed.get(self.place - 1).cloned();
@@ -106,27 +108,30 @@ impl<'a> Chain<'a> {
         if self.done == 1 || choice == 0 {
             return Some(Step::Reset);
         }
-        let mut call = self.call(search);
+        let mut call = self.call(searcher);
         if choice <= REFUSED {
-            call.add_faults(&mut self.random, number(search.next));
+            let expected = number(searcher.search.next);
+            call.add_faults(&mut self.random, expected, searcher.upper);
         }
         Some(Step::Search(call))
     }
 
     /// A call that is accepted.
-    pub fn call(&mut self, search: &Search) -> Call {
+    pub fn call(&mut self, searcher: &Searcher) -> Call {
         let random = &mut self.random;
-        let mut open_loop = [open_loop(random), open_loop(random)];
+        let upper = searcher.upper;
+        let mut open_loop = [open_loop(random, upper), open_loop(random, upper)];
         let (excitation, target, impulse) = match &mut self.source {
-            Source::Feed | Source::ChangedFeed => return self.changed(search, open_loop),
+            Source::Feed | Source::ChangedFeed => return self.changed(searcher, open_loop),
             Source::Uniform => uniform_words(random),
             Source::Quiet => quiet_words(random),
             Source::Extreme => extreme_words(random),
-            Source::Wished => wished_words(random, range(search, open_loop)),
-            Source::Limit => limit_words(random, range(search, open_loop)),
+            Source::Wished => wished_words(random, range(searcher, open_loop)),
+            Source::Limit => limit_words(random, range(searcher, open_loop)),
             Source::Speech(speech) => {
                 speech.advance(random);
-                open_loop = [speech.open_loop(random), speech.open_loop(random)];
+                let lags = [speech.open_loop(random), speech.open_loop(random)];
+                open_loop = lags.map(|lag| lag.min(upper.samples()));
                 (speech.excitation, speech.target(), speech.impulse)
             }
         };
@@ -135,12 +140,13 @@ impl<'a> Chain<'a> {
             target: target.to_vec(),
             impulse: impulse.to_vec(),
             open_loop,
-            subframe: number(search.next),
+            subframe: number(searcher.search.next),
         }
     }
 
-    /// The feed's next search with other loudness, and at times with these lags.
-    fn changed(&mut self, search: &Search, open_loop: [u16; 2]) -> Call {
+    /// The feed's next search with other loudness, and at times with these lags. Its own are at most
+    /// the upper lag.
+    fn changed(&mut self, searcher: &Searcher, open_loop: [u16; 2]) -> Call {
         let mut call = loop {
             self.place = (self.place + 1) % self.feed.len();
             if let Step::Search(call) = &self.feed[self.place] {
@@ -152,29 +158,32 @@ impl<'a> Chain<'a> {
         for word in call.excitation.iter_mut().chain(&mut call.target) {
             *word = word.saturating_mul(loudness) >> places;
         }
-        if self.random.below(4) == 0 {
-            call.open_loop = open_loop;
-        }
-        call.subframe = number(search.next);
+        call.open_loop = match self.random.below(4) {
+            0 => open_loop,
+            _ => call.open_loop.map(|lag| lag.min(searcher.upper.samples())),
+        };
+        call.subframe = number(searcher.search.next);
         call
     }
 }
 
 /// A lag at an end of the windows or at the end of the fractions, or any.
-fn open_loop(random: &mut Random) -> u16 {
+fn open_loop(random: &mut Random, upper: Upper) -> u16 {
+    let upper = u64::from(upper.samples());
     let lag = match random.below(8) {
         0 => 20 + random.below(6),
-        1 => 136 + random.below(8),
+        1 => upper - 7 + random.below(8),
         2 => 78 + random.below(12),
-        _ => 20 + random.below(124),
+        _ => 20 + random.below(upper - 19),
     };
     lag as u16
 }
 
 /// The whole lags that the search will look at.
-fn range(search: &Search, open_loop: [u16; 2]) -> [usize; 2] {
-    let open_loop = open_loop.map(|lag| OpenLoopLag::try_new(lag).expect("a lag within limits"));
-    window(search, open_loop, search.next)
+fn range(searcher: &Searcher, open_loop: [u16; 2]) -> [usize; 2] {
+    let open_loop = searcher.upper.open_loop(open_loop);
+    let open_loop = open_loop.expect("lags within limits");
+    window(searcher, open_loop, searcher.search.next)
 }
 
 fn uniform_words(random: &mut Random) -> Words {

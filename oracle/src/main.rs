@@ -21,6 +21,7 @@ mod lent;
 mod lists;
 mod open_loop;
 mod operators;
+mod player;
 mod project;
 mod published;
 mod pulses;
@@ -34,6 +35,7 @@ mod speed;
 mod states;
 mod subframes;
 mod sums;
+mod upper;
 mod words;
 
 // The published files name each other by `crate::codec`.
@@ -113,6 +115,7 @@ fn compare_functions(names: &[&str]) -> Result<ExitCode, String> {
     functions.extend(reader::functions());
     functions.extend(search::functions());
     functions.extend(recovery::functions());
+    functions.extend(player::functions());
     functions.extend(open_loop::functions());
     functions.extend(filtering::functions());
     functions.extend(pulses::functions());

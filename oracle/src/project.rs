@@ -6,7 +6,7 @@
 pub use mr74::entries::{
     END, GainAnswer, LengthAnswer, Logarithm, OpenLoopAnswer, PitchAnswer, PitchGainAnswer,
     PitchState, PlacesAnswer, PowerAnswer, PulsesAnswer, SharpeningGain, StepAnswer, convolve,
-    fresh_pitch, log2, open_loop, pow2, read_lag, read_pulses, residual,
+    fresh_pitch, fresh_player, log2, open_loop, pow2, read_lag, read_pulses, residual,
 };
 
 use mr74::entries;
@@ -194,10 +194,12 @@ pub fn with_states(answer: StepAnswer, [searcher, reader]: [PitchState; 2]) -> S
         searcher_samples: searcher.samples,
         searcher_fraction: searcher.fraction,
         searcher_next: searcher.next,
+        searcher_upper: searcher.upper,
         searcher_start: searcher.start,
         reader_samples: reader.samples,
         reader_fraction: reader.fraction,
         reader_next: reader.next,
+        reader_upper: reader.upper,
         reader_start: reader.start,
         ..answer
     }

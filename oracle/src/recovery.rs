@@ -1,6 +1,7 @@
-//! Demand 3's list with the library's searcher and lag reader: searches, whose indexes may be
-//! damaged on the way to the reader, resets and stray readings. Compared are the lags where demand 3
-//! says that they are recovered, the starts that both keep, and whether each reading is refused.
+//! Demand 3's list with the library's searcher and lag reader, a handset's and a player's: searches,
+//! whose indexes may be damaged on the way to the reader, resets and stray readings. Compared are
+//! the lags where demand 3 says that they are recovered, the starts that both keep, and whether each
+//! reading is refused.
 
 use crate::{
     calls::{Call, Step},
@@ -8,8 +9,9 @@ use crate::{
     compare::{Function, Line, in_threads},
     counts::{Cases, cases},
     inputs::Random,
-    project::{PitchAnswer, PitchState, fresh_pitch, read_lag},
-    search, states,
+    project::{PitchAnswer, PitchState, read_lag},
+    search::{self, Searcher},
+    upper::Upper,
 };
 use std::fmt;
 
@@ -31,26 +33,29 @@ cases! {
     AfterSearch => "after an intact index, a refused search between",
     AfterStray => "after an intact index, a stray reading between",
     Unequal => "after a damaged index, starts that differ",
+    Above120 => "damaged index of subframe 1 or 3 read as a lag of 121 to 143",
+    AfterAbove120 => "reading of subframe 2 or 4 after such a lag",
 }
 
 pub fn functions() -> [Function; 1] {
     [Function {
         name: "recovery",
-        compare: compare_chains,
+        compare: || compare_chains(Upper::Handset),
     }]
 }
 
-fn compare_chains() -> Vec<Line> {
+/// Compares a searcher and a reader of this upper lag.
+pub fn compare_chains(upper: Upper) -> Vec<Line> {
     let mut tally = Tally::new();
     let parts = in_threads(CHAINS, Tally::new, |tally, chains| {
         for index in chains {
-            tally.compare_chain(index);
+            tally.compare_chain(upper, index);
         }
     });
     for part in parts {
         tally.add(part);
     }
-    let cases = Line::of_cases(tally.cases.counts(|_| true));
+    let cases = Line::of_cases(tally.cases.counts(|case| case.is_of(upper)));
     vec![tally.lags, tally.starts, tally.readings, cases]
 }
 
@@ -84,11 +89,18 @@ struct Last {
     strayed: bool,
 }
 
+impl Case {
+    /// Whether a searcher and a reader of this upper lag meet the case.
+    fn is_of(self, upper: Upper) -> bool {
+        upper == Upper::Player || !matches!(self, Self::Above120 | Self::AfterAbove120)
+    }
+}
+
 impl Pair {
-    fn fresh() -> Self {
+    fn fresh(upper: Upper) -> Self {
         Self {
-            searcher: fresh_pitch(),
-            reader: fresh_pitch(),
+            searcher: upper.fresh(),
+            reader: upper.fresh(),
             last: None,
         }
     }
@@ -124,13 +136,13 @@ impl Tally {
         self.cases.add(part.cases);
     }
 
-    fn compare_chain(&mut self, index: u64) {
+    fn compare_chain(&mut self, upper: Upper, index: u64) {
         let random = &mut Random::at(!index);
         let mut chain = Chain::at(index, &[]);
-        let mut pair = Pair::fresh();
+        let mut pair = Pair::fresh(upper);
         for number in 1.. {
-            let search = states::search(pair.searcher).expect("a subframe that is expected");
-            let Some(step) = chain.next(&search) else {
+            let searcher = Searcher::of(pair.searcher).expect("a subframe that is expected");
+            let Some(step) = chain.next(&searcher) else {
                 break;
             };
             let place = Place {
@@ -143,7 +155,7 @@ impl Tally {
             match step {
                 Step::Reset => {
                     self.cases.count(Case::Reset);
-                    pair = Pair::fresh();
+                    pair = Pair::fresh(upper);
                 }
                 Step::Search(call) => self.compare_search(place, &mut pair, random, &call),
             }
@@ -174,8 +186,16 @@ impl Tally {
         }
         let subframe = call.subframe;
         let arrived = arriving(random, subframe, sent.index);
+        let before = pair.reader.samples;
         let read = self.compare_reading(place, pair, [subframe, arrived], false);
         let intact = arrived == sent.index;
+        if subframe.is_multiple_of(2) {
+            if before > 120 {
+                self.cases.count(Case::AfterAbove120);
+            }
+        } else if read.samples > 120 {
+            self.cases.count(Case::Above120);
+        }
         let recovered = !subframe.is_multiple_of(2) || pair.last.is_some_and(|last| last.intact);
         if intact && recovered {
             self.compare_lags(place, &sent, &read);

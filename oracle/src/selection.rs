@@ -14,7 +14,7 @@ mod states;
 mod steps;
 
 pub use answers::{Answer, Answered, TITLE, filter_words, hertz, printed};
-pub use compare::{compare, program_path};
+pub use compare::{compare, compare_players, program_path};
 pub use encoder::changed;
 pub use stages::{LagReader, Stages, first};
 pub use states::functions;
@@ -35,7 +35,7 @@ pub fn drawn_speech(records: u64) -> Vec<Record> {
         records,
         seed: 0,
     };
-    let mut making = Making::new(feed, &[]);
+    let mut making = Making::new(feed, Stages::default(), &[]);
     let mut records = Vec::new();
     while let Some(made) = making.next() {
         let (kind, body) = (made.bytes[0], made.bytes[1..].to_vec());

@@ -20,8 +20,9 @@ use crate::{
     open_loop::{HALF_FRAME, HISTORY},
     project::*,
     published, pulses,
+    search::Searcher,
     speech::Speech,
-    subframes::{number, searched_start, state},
+    subframes::{number, searched_start},
     words::{EXCITATION, SUBFRAME, uniform},
 };
 use std::{hint::black_box, time::Instant};
@@ -152,15 +153,14 @@ fn calls(loud: bool) -> Vec<Call> {
     const BITS: u32 = 9;
     let random = &mut Random::at(0);
     let mut speech = Speech::new(random, BITS);
-    let mut search = Search::default();
-    let mut start = 0;
+    let mut searcher = Searcher::default();
     let mut calls = Vec::new();
     while calls.len() < 2 * LISTS {
         speech.advance(random);
         let lags = [speech.open_loop(random), speech.open_loop(random)];
         let call = Call {
-            before: search.clone(),
-            state: state(&search, start),
+            before: searcher.search.clone(),
+            state: searcher.state(),
             excitation: if loud {
                 uniform(random)
             } else {
@@ -176,8 +176,9 @@ fn calls(loud: bool) -> Vec<Call> {
             lags,
         };
         let (answer, after) = published_search(&call);
-        start = searched_start(&search, call.open_loop, search.next, answer);
-        search = after;
+        let subframe = searcher.search.next;
+        searcher.start = searched_start(&searcher, call.open_loop, subframe, answer);
+        searcher.search = after;
         calls.push(call);
     }
     calls

@@ -3,15 +3,14 @@
 
 use crate::{
     calls::Call,
-    codec::mr74::pitch::{
-        Fraction, PitchLag,
-        search::{OpenLoopLag, Search, SearchedPitch},
-    },
+    codec::mr74::pitch::{PitchLag, search::SearchedPitch},
     compare::{Function, Line, compare, function},
     inputs::{Inputs, Random},
     project::{PitchAnswer, PitchState, pitch_search, read_lag},
     reader,
-    subframes::{Refusal, answer, searched_start, state, subframe},
+    search::{Searcher, previous},
+    subframes::{Refusal, answer, subframe},
+    upper::Upper,
     words::{EXCITATION, SUBFRAME, impulse_response, quiet},
 };
 
@@ -20,10 +19,12 @@ pub const SAMPLES: [u16; 8] = [0, 4, 19, 40, 143, 144, 32768, u16::MAX];
 pub const FRACTIONS: [i16; 8] = [i16::MIN, -2, -1, 0, 1, 2, 5, i16::MAX];
 pub const NUMBERS: [u8; 7] = [0, 1, 2, 3, 4, 5, 255];
 pub const STARTS: [u16; 8] = [7, 0, 20, 134, 137, 19, 32768, u16::MAX];
+pub const UPPERS: [u8; 7] = [143, 120, 0, 7, 119, 121, 255];
 pub const INDEXES: [u8; 4] = [0, 31, 32, 255];
 
-/// The open-loop lags of a search: both in their range, or one of them outside.
-const LAGS: [[u16; 2]; 3] = [[80, 60], [19, 60], [80, 144]];
+/// The open-loop lags of a search: both in the range of each upper lag, one of them outside, or one
+/// of them above a player's.
+const LAGS: [[u16; 2]; 5] = [[80, 60], [19, 60], [80, 144], [121, 120], [120, 121]];
 
 /// The list that has a word too few.
 const SHORT: [Option<usize>; 4] = [None, Some(0), Some(1), Some(2)];
@@ -57,19 +58,24 @@ pub fn functions() -> [Function; 4] {
 /// A state, the subframe of a call, and what is left of the index.
 type Numbers = (PitchState, u8, u64);
 
-/// The pairs of an expected number and a subframe that `every_word` has.
-const PAIRS: u64 = 49;
+/// How many upper numbers `every_number` has.
+const EACH: u64 = UPPERS.len() as u64;
 
-/// Every expected number with every subframe.
+/// The pairs of an expected number and a subframe that `every_word` has, each for a player and for
+/// another upper number.
+const PAIRS: u64 = 2 * 49;
+
+/// Every expected number with every subframe, and some upper numbers.
 fn every_number(index: u64) -> Numbers {
     let rest = index >> 16;
     let state = PitchState {
         samples: SAMPLES[(index % 7 + rest) as usize % 8],
         fraction: FRACTIONS[(index % 5 + rest) as usize % 8],
         next: index as u8,
+        upper: UPPERS[rest as usize % UPPERS.len()],
         start: STARTS[(index % 3 + rest) as usize % STARTS.len()],
     };
-    (state, (index >> 8) as u8, rest)
+    (state, (index >> 8) as u8, rest / EACH)
 }
 
 /// Every fraction, every lag and every start, at some numbers.
@@ -79,6 +85,10 @@ fn every_word(index: u64) -> Numbers {
         samples: word,
         fraction: word as i16,
         next: NUMBERS[rest as usize % 7],
+        upper: match rest / 49 % 2 {
+            0 => 120,
+            _ => UPPERS[usize::from(word) % UPPERS.len()],
+        },
         start: word.swap_bytes(),
     };
     (state, NUMBERS[rest as usize / 7 % 7], rest / PAIRS)
@@ -102,6 +112,34 @@ where
             .iter()
             .map(|&(number, name)| (name, counts[usize::from(number)])),
     )
+}
+
+/// How often these upper numbers are accepted and refused, at the expected numbers.
+fn uppers_met<I, F>(inputs: &Inputs<F>, call: impl Fn(I) -> (PitchState, PitchAnswer)) -> Line
+where
+    F: Fn(u64) -> Option<I>,
+{
+    const MET: [(u8, &str); 6] = [
+        (0, "accepted, upper number 120"),
+        (1, "accepted, upper number 143"),
+        (2, "accepted, another upper number, 143 after it"),
+        (3, "refused, upper number 120"),
+        (4, "refused, upper number 143"),
+        (5, "refused, another upper number, the same after it"),
+    ];
+    let met = |input: I| {
+        let (given, expected) = call(input);
+        let upper = match given.upper {
+            120 => 0,
+            143 => 1,
+            _ => 2,
+        };
+        match expected.number {
+            0 => upper,
+            _ => 3 + upper,
+        }
+    };
+    numbers_met(inputs, met, &MET)
 }
 
 // ---- The reader.
@@ -139,10 +177,13 @@ fn compare_reads() -> Vec<Line> {
         (4, "refused 4"),
         (5, "refused 5"),
     ];
-    let reads = reads(256, every_number, |rest| rest as u8);
+    let reads = reads(256 * EACH, every_number, |rest| rest as u8);
     let with = ["rule of 01, every expected number, subframe and index"];
     let mut lines = compare(&reads, Read::ours, with, |call| [call.expected()]);
     lines.push(numbers_met(&reads, |call| call.expected().number, &MET));
+    lines.push(uppers_met(&reads, |call: Read| {
+        (call.state, call.expected())
+    }));
     lines
 }
 
@@ -168,6 +209,7 @@ pub fn read(state: PitchState, received: u8, index: u8) -> Result<(PitchLag, Pit
     subframe(received)?;
     subframe(state.next)?;
     let reading = reader::Reading {
+        upper: Upper::of(state.upper),
         previous: previous(state),
         expected: state.next,
         start: state.start,
@@ -176,14 +218,6 @@ pub fn read(state: PitchState, received: u8, index: u8) -> Result<(PitchLag, Pit
     };
     let lag = reader::read(reading)?;
     Ok((lag, reading.state_after(lag)))
-}
-
-/// No answer depends on the fraction.
-fn previous(state: PitchState) -> PitchLag {
-    PitchLag {
-        samples: state.samples,
-        fraction: Fraction::Zero,
-    }
 }
 
 // ---- The searcher.
@@ -233,7 +267,7 @@ fn compare_searches() -> Vec<Line> {
         (3, "refused 3"),
         (4, "refused 4"),
     ];
-    let asked = asked(1, every_number);
+    let asked = asked(EACH, every_number);
     let with = "rule of 01, every expected number and subframe";
     let mut lines = compared_searches(with, &asked);
     let call = drawn();
@@ -242,6 +276,9 @@ fn compare_searches() -> Vec<Line> {
         |asked: Asked| asked.expected(&call).number,
         &MET,
     ));
+    lines.push(uppers_met(&asked, |asked: Asked| {
+        (asked.state, asked.expected(&call))
+    }));
     lines
 }
 
@@ -296,29 +333,13 @@ impl Asked {
 pub fn searched(
     given: PitchState,
     call: &Call,
-    [first, second]: [u16; 2],
+    lags: [u16; 2],
     received: u8,
 ) -> Result<(SearchedPitch, PitchState), Refusal> {
     let lists = call.lists()?;
     let received = subframe(received)?;
-    let before = search(given)?;
-    let open_loop = [OpenLoopLag::try_new(first)?, OpenLoopLag::try_new(second)?];
-    let mut search = before.clone();
-    let found = search.search(
-        lists.excitation,
-        lists.target,
-        lists.impulse,
-        open_loop,
-        received,
-    )?;
-    let start = searched_start(&before, open_loop, received, found);
-    Ok((found, state(&search, start)))
-}
-
-/// The published search in a state, unless its expected subframe is none.
-pub fn search(given: PitchState) -> Result<Search, Refusal> {
-    Ok(Search {
-        previous: previous(given),
-        next: subframe(given.next)?,
-    })
+    let mut searcher = Searcher::of(given)?;
+    let open_loop = searcher.upper.open_loop(lags)?;
+    let found = searcher.found(lists, open_loop, received)?;
+    Ok((found, searcher.state()))
 }

@@ -7,10 +7,12 @@ use crate::{
         codebook,
         pitch::{
             DeltaIndexError, PitchLag,
-            search::{OpenLoopLag, Search, SearchError, SearchedPitch, Subframe},
+            search::{OpenLoopLag, SearchError, SearchedPitch, Subframe},
         },
     },
     project::{ACCEPTED, LengthAnswer, PitchAnswer, PitchState},
+    search::Searcher,
+    upper::Upper,
 };
 
 /// How far before its centre a window starts, and how far behind its start it ends, in subframes 1
@@ -110,24 +112,26 @@ pub fn subframe(number: u8) -> Result<Subframe, Refusal> {
 
 /// The first and the last whole lag that the search looks at, which the published search finds
 /// within its own text.
-pub fn window(search: &Search, open_loop: [OpenLoopLag; 2], subframe: Subframe) -> [usize; 2] {
+pub fn window(searcher: &Searcher, open_loop: [OpenLoopLag; 2], subframe: Subframe) -> [usize; 2] {
     let (centre, radius, span) = if subframe.absolute() {
         let lag = open_loop[subframe.half()];
         (lag.samples(), ABSOLUTE_RADIUS, ABSOLUTE_SPAN)
     } else {
-        (search.previous.samples(), RELATIVE_RADIUS, RELATIVE_SPAN)
+        let previous = searcher.search.previous;
+        (previous.samples(), RELATIVE_RADIUS, RELATIVE_SPAN)
     };
-    let start = start(centre, radius, span);
+    let start = start(searcher.upper, centre, radius, span);
     [start.into(), (start + span).into()]
 }
 
 /// The start of the window in subframes 2 and 4, of a search or of a reading.
-pub fn relative_start(previous: PitchLag) -> u16 {
-    start(previous.samples(), RELATIVE_RADIUS, RELATIVE_SPAN)
+pub fn relative_start(upper: Upper, previous: PitchLag) -> u16 {
+    start(upper, previous.samples(), RELATIVE_RADIUS, RELATIVE_SPAN)
 }
 
-fn start(centre: u16, radius: u16, span: u16) -> u16 {
-    centre.saturating_sub(radius).clamp(20, 143 - span)
+fn start(upper: Upper, centre: u16, radius: u16, span: u16) -> u16 {
+    let highest = upper.samples() - span;
+    centre.saturating_sub(radius).clamp(20, highest)
 }
 
 /// The start that a relative index counts from, as the published lag of that index shows it: whole
@@ -139,7 +143,7 @@ fn shown_start(lag: PitchLag, index: u8) -> u16 {
 /// The start that a searcher keeps after this published answer: in subframes 2 and 4 the one that
 /// the answer shows, and there 01's window rule gives the same; in 1 and 3 the rule's.
 pub fn searched_start(
-    before: &Search,
+    before: &Searcher,
     open_loop: [OpenLoopLag; 2],
     subframe: Subframe,
     SearchedPitch { lag, index }: SearchedPitch,
@@ -161,16 +165,13 @@ pub fn read_start(subframe: u8, lag: PitchLag, index: u8) -> u16 {
     }
 }
 
-/// The library's state of a published search, and the start beside it.
-pub fn state(search: &Search, start: u16) -> PitchState {
-    pitch_state(search.previous, number(search.next), start)
-}
-
-pub fn pitch_state(previous: PitchLag, next: u8, start: u16) -> PitchState {
+/// The library's state of a published search or reading, with the start beside it.
+pub fn pitch_state(upper: Upper, previous: PitchLag, next: u8, start: u16) -> PitchState {
     PitchState {
         samples: previous.samples(),
         fraction: previous.fraction().thirds(),
         next,
+        upper: upper.number(),
         start,
     }
 }
@@ -191,6 +192,7 @@ pub fn answer(answer: Result<(u8, PitchLag), Refusal>, after: PitchState) -> Pit
         previous_samples: after.samples,
         previous_fraction: after.fraction,
         next: after.next,
+        upper: after.upper,
         start: after.start,
     }
 }

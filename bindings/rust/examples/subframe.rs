@@ -1,6 +1,6 @@
 //! The stages of one subframe, on silence and on a voiced sound, and both readers on what they
-//! send; and a level meter of the gain row, on a sound that fits and on a loud one: the same lines
-//! as examples/c/main.c prints.
+//! send; a level meter of the gain row, on a sound that fits and on a loud one; and the pitch of an
+//! announcement player beside that of a handset: the same lines as examples/c/main.c prints.
 
 use mr74::{
     Refusal, SUBFRAME_SAMPLES,
@@ -13,7 +13,7 @@ use mr74::{
     gain::quantization::{GainLimit, PitchClips, Prediction, pitch_gain, quantize},
     logarithm::{log2, pow2},
     pitch::{
-        LagReader, PitchLag,
+        LagReader, PitchLag, UpperLag,
         open_loop::Detector,
         search::{EXCITATION_SAMPLES, OpenLoopLag, Search, Subframe, convolve},
     },
@@ -33,6 +33,16 @@ struct State {
 }
 
 impl State {
+    /// Searcher and reader are made alike: only then does the reader recover what the searcher
+    /// sends. The default is a handset's.
+    fn player() -> Self {
+        Self {
+            detector: Detector::default(),
+            searcher: Search::player(),
+            reader: LagReader::player(),
+        }
+    }
+
     fn open_loop(&mut self, samples: &[i16; HALF_FRAME]) -> OpenLoopLag {
         let lag = self.detector.push(samples);
         println!("open {}", lag.samples());
@@ -212,9 +222,36 @@ fn rising(step: i16) -> Result<(), Refusal> {
     Ok(())
 }
 
+/// The largest open-loop lag of a player in subframes one and two, and one more in three.
+fn upper_lag(mut state: State) -> Result<(), Refusal> {
+    let name = match state.searcher.upper {
+        UpperLag::Player => "player",
+        UpperLag::Handset => "handset",
+    };
+    println!("{name}");
+    let zeros = [0; SUBFRAME_SAMPLES];
+    let excitation = [0; EXCITATION_SAMPLES];
+    let largest = UpperLag::Player.samples();
+    for (lag, subframe) in [
+        (largest, Subframe::One),
+        (largest, Subframe::Two),
+        (largest + 1, Subframe::Three),
+    ] {
+        let lag = OpenLoopLag::try_new(lag)?;
+        // A player's searcher refuses the last, and stays as it is.
+        match state.pitch(&excitation, &zeros, &zeros, lag, subframe) {
+            Ok(_) => {}
+            Err(Refusal { number, detail }) => println!("refused {number} {detail}"),
+        }
+    }
+    Ok(())
+}
+
 fn main() -> Result<(), Refusal> {
     silence()?;
     voiced()?;
     rising(200)?;
-    rising(800)
+    rising(800)?;
+    upper_lag(State::player())?;
+    upper_lag(State::default())
 }

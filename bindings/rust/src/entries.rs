@@ -20,11 +20,12 @@ macro_rules! answers {
 answers! {
     LengthAnswer { number: u8, magnitude: u64, }
     OpenLoopAnswer { number: u8, magnitude: u64, lag: u16, }
-    /// A searcher or a lag reader: the lag before, its thirds, the subframe expected next, and the
-    /// start of the last window. No answer depends on the thirds or on the start. A `next` outside
-    /// 1 to 4 is refused by 2, after the call's own subframe, and a refusal hands back the numbers
-    /// that were given, whatever they are.
-    PitchState { samples: u16, fraction: i16, next: u8, start: u16, }
+    /// A searcher or a lag reader: the lag before, its thirds, the subframe expected next, the upper
+    /// lag, and the start of the last window. No answer depends on the thirds or on the start. An
+    /// `upper` of 120 is an announcement player's, and every other is taken as a handset's. A
+    /// `next` outside 1 to 4 is refused by 2, after the call's own subframe, and a refusal hands
+    /// back the numbers that were given, whatever they are.
+    PitchState { samples: u16, fraction: i16, next: u8, upper: u8, start: u16, }
     /// The index and the lag, then the searcher or reader after the call.
     PitchAnswer {
         number: u8,
@@ -35,6 +36,7 @@ answers! {
         previous_samples: u16,
         previous_fraction: i16,
         next: u8,
+        upper: u8,
         start: u16,
     }
     PulsesAnswer { number: u8, magnitude: u64, positions: u16, signs: u16, }
@@ -88,10 +90,12 @@ answers! {
         searcher_samples: u16,
         searcher_fraction: i16,
         searcher_next: u8,
+        searcher_upper: u8,
         searcher_start: u16,
         reader_samples: u16,
         reader_fraction: i16,
         reader_next: u8,
+        reader_upper: u8,
         reader_start: u16,
     }
 }
@@ -117,6 +121,7 @@ impl PitchAnswer {
             samples: self.previous_samples,
             fraction: self.previous_fraction,
             next: self.next,
+            upper: self.upper,
             start: self.start,
         }
     }
@@ -129,6 +134,7 @@ impl StepAnswer {
             samples: self.searcher_samples,
             fraction: self.searcher_fraction,
             next: self.searcher_next,
+            upper: self.searcher_upper,
             start: self.searcher_start,
         }
     }
@@ -139,6 +145,7 @@ impl StepAnswer {
             samples: self.reader_samples,
             fraction: self.reader_fraction,
             next: self.reader_next,
+            upper: self.reader_upper,
             start: self.reader_start,
         }
     }
@@ -206,7 +213,11 @@ entries! {
 
     fn open_loop_lag as mr74_open_loop_lag(samples: u16) -> OpenLoopAnswer;
 
+    /// Of a handset.
     fn fresh_pitch as mr74_fresh_pitch() -> PitchState;
+
+    /// Of an announcement player.
+    fn fresh_player as mr74_fresh_player() -> PitchState;
 
     fn pitch_search as mr74_pitch_search(
         searcher: PitchState,
@@ -258,7 +269,8 @@ entries! {
 
     /// Runs the record at a place of a feed. The detector's words are lent and updated there, and
     /// the last list takes the 160 words of a filtering record; every other record, and a refused
-    /// one, leaves it as it was. A state that the record does not use comes back as it was given.
+    /// one, leaves it as it was. A reset makes searcher and reader fresh, and each keeps its upper
+    /// lag; a state that the record does not use comes back as it was given.
     fn step as mr74_step(
         feed: &[u8],
         at: usize,

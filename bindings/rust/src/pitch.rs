@@ -7,6 +7,9 @@ pub use crate::Refusal as DeltaIndexError;
 use crate::entries::{self, PitchState};
 use search::Subframe;
 
+const PLAYER: u8 = 120;
+const HANDSET: u8 = 143;
+
 #[derive(Debug, Clone, Copy, PartialEq, Eq)]
 pub enum Fraction {
     MinusThird,
@@ -32,6 +35,43 @@ impl Fraction {
     }
 }
 
+/// The largest open-loop lag that a search takes, and the upper end of its windows. A reader
+/// recovers what a search sends if both were made with the same one.
+#[derive(Debug, Clone, Copy, PartialEq, Eq)]
+pub enum UpperLag {
+    /// Of an announcement player.
+    Player,
+    Handset,
+}
+
+impl UpperLag {
+    /// 120 or 143.
+    pub fn samples(self) -> u16 {
+        self.number().into()
+    }
+
+    fn number(self) -> u8 {
+        match self {
+            Self::Player => PLAYER,
+            Self::Handset => HANDSET,
+        }
+    }
+
+    fn of(number: u8) -> Self {
+        match number {
+            PLAYER => Self::Player,
+            _ => Self::Handset,
+        }
+    }
+
+    fn fresh(self) -> PitchState {
+        match self {
+            Self::Player => entries::fresh_player(),
+            Self::Handset => entries::fresh_pitch(),
+        }
+    }
+}
+
 /// The fields are public, so that the original's concealment can write them: no stage needs a lag
 /// to be in a range that it does not check.
 #[derive(Debug, Clone, Copy, PartialEq, Eq)]
@@ -47,11 +87,12 @@ impl PitchLag {
         Self::of(answer.samples, answer.fraction)
     }
 
-    /// Refuses by 5 an index above 31.
+    /// Of a handset. Refuses by 5 an index above 31.
     pub fn from_relative(index: u8, previous: Self) -> Result<Self, DeltaIndexError> {
         LagReader {
             previous,
             next: Subframe::Two,
+            upper: UpperLag::Handset,
             start: 0,
         }
         .read(Subframe::Two, index)
@@ -73,11 +114,12 @@ impl PitchLag {
     }
 }
 
-/// Reads the indexes that a search sends, subframe by subframe.
+/// Reads the indexes that a search sends, subframe by subframe. The default is a handset's.
 #[derive(Debug, Clone, PartialEq, Eq)]
 pub struct LagReader {
     pub previous: PitchLag,
     pub next: Subframe,
+    pub upper: UpperLag,
     /// The first whole lag of the window that the last reading used, if it was one of subframe two
     /// or four; 0 when fresh and after one and three. No reading depends on it.
     pub start: u16,
@@ -85,45 +127,59 @@ pub struct LagReader {
 
 impl Default for LagReader {
     fn default() -> Self {
-        let (previous, next, start) = kept(entries::fresh_pitch());
-        Self {
-            previous,
-            next,
-            start,
-        }
+        Self::fresh(UpperLag::Handset)
     }
 }
 
 impl LagReader {
+    /// A fresh reader of an announcement player.
+    pub fn player() -> Self {
+        Self::fresh(UpperLag::Player)
+    }
+
+    /// Keeps the upper lag.
     pub fn reset(&mut self) {
-        *self = Self::default();
+        *self = Self::fresh(self.upper);
     }
 
     /// Refuses by 4 a subframe that is not the one expected, then by 5 a relative index above 31.
+    /// In subframes one and three a player's reader takes every index too.
     pub fn read(&mut self, subframe: Subframe, index: u8) -> Result<PitchLag, DeltaIndexError> {
-        let reader = state(self.previous, self.next, self.start);
-        let answer = entries::read_lag(reader, subframe.number(), index);
+        let answer = entries::read_lag(self.state(), subframe.number(), index);
         DeltaIndexError::check(answer.number, answer.magnitude)?;
-        (self.previous, self.next, self.start) = kept(answer.state());
+        *self = Self::of(answer.state());
         Ok(PitchLag::of(answer.samples, answer.fraction))
     }
 }
 
-/// A searcher or a reader, as it crosses to the library.
-fn state(previous: PitchLag, next: Subframe, start: u16) -> PitchState {
-    PitchState {
-        samples: previous.samples,
-        fraction: previous.fraction.thirds(),
-        next: next.number(),
-        start,
-    }
-}
+/// The numbers in which a searcher or a reader crosses to the library, and back.
+macro_rules! crosses {
+    ($end:ty) => {
+        impl $end {
+            fn fresh(upper: UpperLag) -> Self {
+                Self::of(upper.fresh())
+            }
 
-/// What a searcher or a reader keeps.
-fn kept(state: PitchState) -> (PitchLag, Subframe, u16) {
-    (
-        PitchLag::of(state.samples, state.fraction),
-        Subframe::of(state.next),
-        state.start,
-    )
+            fn of(state: PitchState) -> Self {
+                Self {
+                    previous: PitchLag::of(state.samples, state.fraction),
+                    next: Subframe::of(state.next),
+                    upper: UpperLag::of(state.upper),
+                    start: state.start,
+                }
+            }
+
+            fn state(&self) -> PitchState {
+                PitchState {
+                    samples: self.previous.samples,
+                    fraction: self.previous.fraction.thirds(),
+                    next: self.next.number(),
+                    upper: self.upper.number(),
+                    start: self.start,
+                }
+            }
+        }
+    };
 }
+crosses!(LagReader);
+crosses!(search::Search);

@@ -43,7 +43,10 @@ impl fmt::Display for Refusal {
                 f,
                 "{detail} is no subframe (1 to 4), or no limit choice (0 or 1)"
             ),
-            3 => write!(f, "open-loop lag {detail} is outside 20 to 143"),
+            3 => write!(
+                f,
+                "open-loop lag {detail} is outside 20 to 143, or above 120 for a player"
+            ),
             4 => write!(f, "subframe {detail} is expected next"),
             5 => write!(f, "relative pitch index {detail} is above 31"),
             6 => write!(f, "pulse lag {detail} is outside 19 to 144"),

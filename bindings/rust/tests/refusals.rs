@@ -11,7 +11,7 @@ use mr74::{
     gain::quantization::{GainLimit, Prediction, quantize},
     logarithm::pow2,
     pitch::{
-        Fraction, LagReader, PitchLag,
+        Fraction, LagReader, PitchLag, UpperLag,
         search::{EXCITATION_SAMPLES, OpenLoopLag, Search, Subframe},
     },
 };
@@ -51,6 +51,7 @@ fn expected_subframes_are_refused_by_2_and_numbers_come_back() {
         samples: 7,
         fraction: 5,
         next,
+        upper: 7,
         start: u16::MAX,
     };
     for next in [0, 5, 255] {
@@ -75,6 +76,7 @@ fn steps_write_no_words_but_those_of_a_filtering_record() {
         samples: 7,
         fraction: 5,
         next: 9,
+        upper: 7,
         start: 7,
     };
     let step = |feed: &[u8]| {
@@ -97,9 +99,77 @@ fn open_loop_lags_are_refused_by_3() {
     for lag in [0, 19, 144, u16::MAX] {
         assert_eq!(OpenLoopLag::try_new(lag), Err(refusal(3, lag.into())));
     }
-    for lag in [20, 143] {
+    for lag in [20, 120, 121, 143] {
         assert_eq!(OpenLoopLag::try_new(lag).map(OpenLoopLag::samples), Ok(lag));
     }
+}
+
+/// A search of silence with these open-loop lags.
+fn find(searcher: &mut Search, lags: [u16; 2], subframe: Subframe) -> Result<u16, Refusal> {
+    let lags = lags.map(|lag| OpenLoopLag::try_new(lag).expect("a lag"));
+    let excitation = [0; EXCITATION_SAMPLES];
+    let found = searcher.search(&excitation, &SILENCE, &SILENCE, lags, subframe)?;
+    Ok(found.lag.samples())
+}
+
+#[test]
+fn a_player_refuses_open_loop_lags_above_120_by_3() -> Result<(), Refusal> {
+    let mut searcher = Search::player();
+    for subframe in [
+        Subframe::One,
+        Subframe::Two,
+        Subframe::Three,
+        Subframe::Four,
+    ] {
+        let before = searcher.clone();
+        for (lags, detail) in [
+            ([121, 80], 121),
+            ([80, 121], 121),
+            ([121, 143], 121),
+            ([143, 121], 143),
+            ([120, 143], 143),
+        ] {
+            let refused = find(&mut searcher, lags, subframe);
+            assert_eq!(refused, Err(refusal(3, detail)));
+            assert_eq!(searcher, before);
+            assert!(find(&mut Search::default(), lags, Subframe::One).is_ok());
+        }
+        find(&mut searcher, [120, 20], subframe)?;
+        assert_eq!(searcher.upper, UpperLag::Player);
+    }
+    assert_eq!(find(&mut searcher, [20, 120], Subframe::One)?, 25);
+    Ok(())
+}
+
+#[test]
+fn a_players_number_3_comes_after_2_and_before_4() {
+    let find = |given, lags: [u16; 2], subframe| {
+        let [first, second] = lags;
+        let excitation = [0; EXCITATION_SAMPLES];
+        let found = entries::pitch_search(
+            given,
+            &excitation,
+            &SILENCE,
+            &SILENCE,
+            first,
+            second,
+            subframe,
+        );
+        assert!(found.number == 0 || found.state() == given);
+        (found.number, found.magnitude)
+    };
+    let fresh = entries::fresh_player();
+    assert_eq!(find(fresh, [19, 121], 1), (3, 19));
+    assert_eq!(find(fresh, [121, 19], 1), (3, 121));
+    assert_eq!(find(fresh, [144, 121], 1), (3, 144));
+    assert_eq!(find(fresh, [120, u16::MAX], 1), (3, u16::MAX.into()));
+    assert_eq!(find(fresh, [121, 80], 0), (2, 0));
+    let unknown = entries::PitchState { next: 5, ..fresh };
+    assert_eq!(find(unknown, [121, 80], 1), (2, 5));
+    assert_eq!(find(fresh, [121, 80], 2), (3, 121));
+    assert_eq!(find(fresh, [120, 80], 2), (4, 1));
+    assert_eq!(find(fresh, [120, 120], 1), (0, 0));
+    assert_eq!(find(entries::fresh_pitch(), [121, 143], 1), (0, 0));
 }
 
 #[test]
@@ -219,7 +289,11 @@ fn refusals_say_what_is_wrong() {
             39,
             "a list of length 39 is not as long as its stage needs",
         ),
-        (3, 19, "open-loop lag 19 is outside 20 to 143"),
+        (
+            3,
+            121,
+            "open-loop lag 121 is outside 20 to 143, or above 120 for a player",
+        ),
         (4, 3, "subframe 3 is expected next"),
         (
             7,

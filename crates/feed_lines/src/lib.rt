@@ -7,6 +7,7 @@ ghost use Rattle.feed.specs.Records.{ends_feed};
 ghost use Rattle.feed_lines.specs.Endings.{Stops, stops};
 
 use open_loop::Detector;
+use pitch::UpperLag;
 use refusal::Refusal;
 use selection::ClosedLoop;
 use selection_answers::Answer;
@@ -179,7 +180,7 @@ struct Selection<'h> {
 impl<'h> Selection<'h> {
     fn fresh(history_q0: &'h mut [i16; 143]) -> Self {
         Selection {
-            ends: ClosedLoop::fresh(),
+            ends: ClosedLoop::fresh(UpperLag::Handset),
             history_q0,
         }
     }

@@ -5,14 +5,19 @@ use Rattle.refusal.specs.Checks.{Check, Outcome, unless_refused, known_subframe,
 use Rattle.pitch.specs.declared.Subframe.{Subframe}
 use Rattle.pitch.specs.declared.Subframe.TheVariants.{One}
 use Rattle.pitch.specs.declared.PitchLag.{PitchLag}
+use Rattle.pitch.specs.declared.UpperLag.{UpperLag}
 use Rattle.lag_reader.specs.declared.Reader.{Reader}
-use Rattle.pitch.specs.Kinds.{fresh_lag, subframe_number, absolute, following}
-use Rattle.pitch.specs.Windows.{handset, relative_start}
+use Rattle.pitch.specs.Kinds.{fresh_lag, subframe_number, absolute, following, upper_samples}
+use Rattle.pitch.specs.Windows.{relative_start}
 use Rattle.pitch.specs.Indexes.{lag_of}
 
 -- 'Fresh searcher and fresh reader: previous lag 40, expecting 1'; 02: the start of its window is '0 when fresh or reset'
-abbrev pub fresh_reader : Reader
-fresh_reader = record { previous = fresh_lag; next = One; start = 0 }
+abbrev pub fresh_reader : UpperLag → Reader
+fresh_reader upper = record { previous = fresh_lag; next = One; upper = upper; start = 0 }
+
+-- 02: 'a reset keeps which' upper lag it was made with
+abbrev pub reset_reader : Reader → Reader
+reset_reader r = fresh_reader r.upper
 
 -- 01, number 5: a relative index is at most 31
 abbrev pub relative_index_fits : Subframe → ℕ → Check
@@ -25,10 +30,11 @@ start_used upper s previous = cond (absolute s) 0 (relative_start upper previous
 -- a reading in subframe s that the checks let through: its lag, and the reader after it
 abbrev pub read_in : Subframe → Reader → ℕ → Outcome PitchLag Reader
 read_in s r index =
-    let lag = lag_of handset s r.previous.samples index in
+    let upper = upper_samples r.upper in
+    let lag = lag_of upper s r.previous.samples index in
     record {
       answer = values lag;
-      after = record { previous = lag; next = following s; start = start_used handset s r.previous.samples };
+      after = record { previous = lag; next = following s; upper = r.upper; start = start_used upper s r.previous.samples };
     }
 
 -- 01, numbers 2, 4 and 5 in checking order

@@ -20,7 +20,7 @@ use Rattle.fixed.proofs.Bounds.{either}
 use Rattle.open_loop.specs.declared.Detector.{Detector}
 use Rattle.selection_answers.specs.Lines.{Line}
 use Rattle.selection_records.specs.Records.{zeros, in_order, with_words, half_frame, filtering}
-use Rattle.selection.specs.Steps.{Selection, Step, fresh_selection, of_kind, of_standing, step_lent}
+use Rattle.selection.specs.Steps.{Selection, Step, reset_selection, of_kind, of_standing, step_lent}
 
 -- what holds of a state and of an accepted one holds of the state after any checks
 module _ {A S : Type 0} (P : S → Type 0) (s : S) (a : Outcome A S) (h : P s) (g : P a.after) where
@@ -74,7 +74,7 @@ module _ (s : Selection) (ws : List ℤ) (h : length s.detector.history_q0 ≡ 1
   Kept t = (length t.after.detector.history_q0 ≡ 143) × (length t.words ≡ 160)
 
   kind_kept : (kind : ℕ) (bs : List ℕ) → Kept (of_kind s ws kind bs)
-  unfolding of_kind fresh_selection fresh_detector
+  unfolding of_kind reset_selection fresh_detector
   kind_kept zero bs = (refl, w)
   kind_kept (suc zero) bs = (half_frame_kept s.detector bs h, w)
   kind_kept (suc (suc zero)) bs = (h, w)

@@ -21,6 +21,7 @@ accepted_pitch index l after =
       previous_samples = after.samples;
       previous_fraction = after.fraction;
       next = after.next;
+      upper = after.upper;
       start = after.start;
     }
 
@@ -36,6 +37,7 @@ refused_pitch n d after =
       previous_samples = after.samples;
       previous_fraction = after.fraction;
       next = after.next;
+      upper = after.upper;
       start = after.start;
     }
 

@@ -28,10 +28,12 @@ step_answer f searcher reader =
       searcher_samples = searcher.samples;
       searcher_fraction = searcher.fraction;
       searcher_next = searcher.next;
+      searcher_upper = searcher.upper;
       searcher_start = searcher.start;
       reader_samples = reader.samples;
       reader_fraction = reader.fraction;
       reader_next = reader.next;
+      reader_upper = reader.upper;
       reader_start = reader.start;
     }
 

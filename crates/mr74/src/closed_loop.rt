@@ -1,6 +1,7 @@
 // The closed loop. A searcher or a lag reader crosses as numbers.
 ghost use Rattle.std.specs.Prelude.{◌≡◌};
 ghost use Rattle.refusal.specs.Refused.{told};
+ghost use Rattle.pitch.specs.declared.UpperLag.TheVariants.{Player, Handset};
 ghost use Rattle.pitch_convolution.specs.Filters.{convolve};
 ghost use Rattle.pitch_state.specs.States.{fresh_state};
 ghost use Rattle.pitch_state.specs.Calls.{search_in_numbers, read_in_numbers};
@@ -9,6 +10,7 @@ ghost use Rattle.mr74.specs.Pitches.{told_pitch, pitch_answer, reading_answer};
 
 use crate::details::Detail;
 use crate::filtering::{LengthAnswer, length_answer};
+use pitch::UpperLag;
 use pitch_search::SearchedPitch;
 use pitch_state::PitchState;
 use refusal::Refusal;
@@ -25,14 +27,22 @@ pub struct PitchAnswer {
     pub previous_samples: u16,
     pub previous_fraction: i16,
     pub next: u8,
+    pub upper: u8,
     pub start: u16,
 }
 
 #[unsafe(no_mangle)]
 pub extern "C" fn mr74_fresh_pitch() -> PitchState
-    ensures { result ≡ fresh_state }
+    ensures { result ≡ fresh_state Handset }
 {
-    pitch_state::fresh()
+    pitch_state::fresh(UpperLag::Handset)
+}
+
+#[unsafe(no_mangle)]
+pub extern "C" fn mr74_fresh_player() -> PitchState
+    ensures { result ≡ fresh_state Player }
+{
+    pitch_state::fresh(UpperLag::Player)
 }
 
 #[tactic(auto, unfolding(crate::specs::Pitches::pitch_answer))]
@@ -89,6 +99,7 @@ fn pitch_answer(answer: Result<SearchedPitch, Refusal>, after: PitchState) -> Pi
         previous_samples: after.samples,
         previous_fraction: after.fraction,
         next: after.next,
+        upper: after.upper,
         start: after.start,
         ..Default::default()
     };

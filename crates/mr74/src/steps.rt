@@ -33,10 +33,12 @@ pub struct StepAnswer {
     pub searcher_samples: u16,
     pub searcher_fraction: i16,
     pub searcher_next: u8,
+    pub searcher_upper: u8,
     pub searcher_start: u16,
     pub reader_samples: u16,
     pub reader_fraction: i16,
     pub reader_next: u8,
+    pub reader_upper: u8,
     pub reader_start: u16,
 }
 
@@ -164,10 +166,12 @@ fn step_answer(answer: Result<Option<Answer>, Refusal>, states: PitchStates) -> 
         searcher_samples: states.searcher.samples,
         searcher_fraction: states.searcher.fraction,
         searcher_next: states.searcher.next,
+        searcher_upper: states.searcher.upper,
         searcher_start: states.searcher.start,
         reader_samples: states.reader.samples,
         reader_fraction: states.reader.fraction,
         reader_next: states.reader.next,
+        reader_upper: states.reader.upper,
         reader_start: states.reader.start,
         ..Default::default()
     };

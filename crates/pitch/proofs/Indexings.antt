@@ -12,6 +12,7 @@ use Rattle.pitch.specs.declared.PitchLag.{PitchLag}
 use Rattle.pitch.specs.Kinds.{from_zero}
 use Rattle.pitch.specs.Windows.{window_start, absolute_start, relative_start}
 use Rattle.pitch.specs.Indexes.{absolute_index, relative_index, fraction_at, minus_one, absolute_lag, relative_lag}
+use Rattle.pitch.specs.Statement.{in_thirds, AbsoluteChoice, RelativeChoice, AbsoluteBack, RelativeBack, IndexRules, PlayersEnds}
 
 -- ---- fractions
 pub from_zero_le : (f : Fraction) → from_zero f ≤ 2
@@ -35,10 +36,7 @@ minus_one_back MinusThird n e = rw e
 minus_one_back Zero n e = rw e
 minus_one_back PlusThird n e = rw e
 
--- ---- a lag counted in thirds
-abbrev pub in_thirds : PitchLag → ℕ
-in_thirds l = 3 * l.samples + from_zero l.fraction
-
+-- ---- the index
 -- a whole lag from 85 up has one index, by either line of the rule
 whole_index : (l : PitchLag) → 85 ≤ l.samples → l.fraction ≡ Zero → absolute_index l ≡ l.samples + 112
 whole_index l h e = go (leb l.samples 85) refl
@@ -88,23 +86,30 @@ module _ (start : ℕ) (h : 20 ≤ start) (l : PitchLag) (low : 3 * start ≤ in
 
 -- ---- the two rules together, for every upper lag from 40 to 143 and every centre
 module _ (upper : ℕ) (h : 40 ≤ upper) (g : upper ≤ 143) (centre : ℕ) (l : PitchLag) where
-  -- subframes 1 and 3: from one lag less a third below the start, by thirds up to 85 and −1, by whole lags from 85 to the window's end
-  pub absolute_round : 3 * absolute_start upper centre ≤ in_thirds l + 1 →
-      (in_thirds l ≤ 255) ⊎ ((85 ≤ l.samples) × (l.samples ≤ absolute_start upper centre + 6) × (l.fraction ≡ Zero)) →
-      (absolute_lag (absolute_index l) ≡ l) × (absolute_index l ≤ 255)
-  absolute_round low c =
+  pub absolute_round : AbsoluteChoice (absolute_start upper centre) l → AbsoluteBack l
+  absolute_round c =
       let start = absolute_start upper centre in
       let a = window_low 6 3 upper centre in
-      let b = within c in
-      (absolute_back start a l low b, absolute_fits start a l low b)
+      let b = within c.to in
+      (absolute_back start a l c.from b, absolute_fits start a l c.from b)
     where
       within : (in_thirds l ≤ 255) ⊎ ((85 ≤ l.samples) × (l.samples ≤ absolute_start upper centre + 6) × (l.fraction ≡ Zero)) →
           (in_thirds l ≤ 255) ⊎ ((85 ≤ l.samples) × (l.samples ≤ 143) × (l.fraction ≡ Zero))
       within (inl t) = inl t
       within (inr (b, t, e)) = inr (b, omega (arith, window_high 6 3 upper centre (omega arith)), e)
 
-  -- subframes 2 and 4: from one lag less a third below the start to one lag less a third above the end
-  pub relative_round : 3 * relative_start upper centre ≤ in_thirds l + 1 → in_thirds l ≤ 3 * (relative_start upper centre + 9) + 3 →
-      (relative_lag (relative_start upper centre) (relative_index (relative_start upper centre) l) ≡ l)
-      × (relative_index (relative_start upper centre) l ≤ 31)
-  relative_round low high = (relative_back (relative_start upper centre) (window_low 9 5 upper centre) l low, omega arith)
+  pub relative_round : RelativeChoice (relative_start upper centre) l → RelativeBack (relative_start upper centre) l
+  relative_round c = (relative_back (relative_start upper centre) (window_low 9 5 upper centre) l c.from, omega (arith, c.to))
+
+pub index_rules : IndexRules
+unfolding IndexRules
+index_rules upper h g centre l = (absolute_round upper h (omega arith) centre l, relative_round upper h (omega arith) centre l)
+
+pub players_ends : PlayersEnds
+unfolding PlayersEnds
+players_ends = (
+  record { from = omega arith; to = inr (omega arith, omega arith, refl) },
+  refl,
+  record { from = omega arith; to = omega arith },
+  refl,
+)

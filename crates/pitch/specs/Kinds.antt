@@ -9,7 +9,8 @@ use Rattle.pitch.specs.declared.Subframe.{Subframe}
 use Rattle.pitch.specs.declared.Subframe.TheVariants.{One, Two, Three, Four}
 use Rattle.pitch.specs.declared.PitchLag.{PitchLag}
 use Rattle.pitch.specs.declared.OpenLoopLag.{OpenLoopLag}
-use Rattle.pitch.specs.Windows.{handset}
+use Rattle.pitch.specs.declared.UpperLag.{UpperLag}
+use Rattle.pitch.specs.declared.UpperLag.TheVariants.{Player, Handset}
 
 -- 01: 'Pitch fractions are −1, 0 or 1 thirds of a sample'
 abbrev pub thirds : Fraction → ℤ
@@ -52,10 +53,15 @@ following Four = One
 abbrev pub told_lag : Result OpenLoopLag Refusal → Told ℕ
 told_lag r = put (λ l. l.0) (told r)
 
+-- 02: 'Searchers and readers are made with 120 or 143 only'
+abbrev pub upper_samples : UpperLag → ℕ
+upper_samples Player = 120
+upper_samples Handset = 143
+
 -- 01, number 3, with an upper lag in place of 143
 abbrev pub try_within : ℕ → ℕ → Told ℕ
 try_within upper n = checked (open_loop_lag upper n ∷ []) refused (values n)
 
 -- 01, number 3: 'outside 20 to 143'
 abbrev pub try_lag : ℕ → Told ℕ
-try_lag n = try_within handset n
+try_lag n = try_within (upper_samples Handset) n

@@ -1,10 +1,6 @@
 -- 01, 'Closed loop': the window of whole lags that a search goes through (TS 26.073 getRange). Each rule is for every upper lag.
 use Rattle.std.specs.Prelude.{ℕ, ◌-◌, min, max}
 
--- the handset's upper lag
-abbrev pub handset : ℕ
-handset = 143
-
 -- a window of span + 1 lags from centre - radius, pushed inward so that it lies in 20 .. upper
 abbrev pub window_start : ℕ → ℕ → ℕ → ℕ → ℕ
 window_start span radius upper centre = max 20 (min (upper - span) (centre - radius))

@@ -4,8 +4,8 @@
 ghost use Rattle.std.specs.Prelude.{[], ◌≡◌, ◌∷◌, ◌≤◌};
 ghost use Rattle.refusal.specs.Refused.{values, refused, told, put};
 ghost use Rattle.refusal.specs.Checks.{checked, known_subframe};
-ghost use Rattle.pitch.specs.Kinds.{thirds, from_zero, fresh_lag, subframe_number, absolute, following, told_lag, try_lag};
-ghost use Rattle.pitch.specs.Windows.{window_start, absolute_start, relative_start, handset};
+ghost use Rattle.pitch.specs.Kinds.{thirds, from_zero, fresh_lag, subframe_number, absolute, following, upper_samples, told_lag, try_within, try_lag};
+ghost use Rattle.pitch.specs.Windows.{window_start, absolute_start, relative_start};
 ghost use Rattle.pitch.specs.Indexes.{absolute_index, relative_index, fraction_at, absolute_lag, relative_lag, index_of, lag_of};
 
 use refusal::Refusal;
@@ -134,7 +134,7 @@ impl Subframe {
     }
 }
 
-// A lag that the open loop may answer: made by `try_new` alone.
+// A lag that the open loop may answer: made by `try_within` alone.
 #[derive(Clone, Copy, Debug, PartialEq, Eq)]
 pub struct OpenLoopLag(u16);
 
@@ -146,7 +146,14 @@ impl OpenLoopLag {
     pub fn try_new(samples: u16) -> Result<Self, Refusal>
         ensures { told_lag result ≡ try_lag samples }
     {
-        if samples < OpenLoopLag::MIN || OpenLoopLag::MAX < samples {
+        OpenLoopLag::try_within(samples, UpperLag::Handset)
+    }
+
+    // One that a searcher takes whose upper lag is this one.
+    pub fn try_within(samples: u16, upper: UpperLag) -> Result<Self, Refusal>
+        ensures { told_lag result ≡ try_within (upper_samples upper) samples }
+    {
+        if samples < OpenLoopLag::MIN || upper.samples() < samples {
             return Err(Refusal::OpenLoopLag(samples));
         }
         Ok(OpenLoopLag(samples))
@@ -156,6 +163,29 @@ impl OpenLoopLag {
         ensures { result ≡ self.0 }
     {
         self.0
+    }
+}
+
+// The upper end of the open-loop lags that a searcher takes, and of its windows. Only these two can be written.
+#[derive(Clone, Copy, Debug, PartialEq, Eq)]
+pub enum UpperLag {
+    // The announcement player.
+    Player,
+    Handset,
+}
+
+impl UpperLag {
+    pub const PLAYER: u16 = 120;
+
+    pub const HANDSET: u16 = OpenLoopLag::MAX;
+
+    pub fn samples(self) -> u16
+        ensures { result ≡ upper_samples self }
+    {
+        match self {
+            UpperLag::Player => UpperLag::PLAYER,
+            UpperLag::Handset => UpperLag::HANDSET,
+        }
     }
 }
 
@@ -186,10 +216,10 @@ impl PitchLag {
     }
 
     // TS 26.073 Dec_lag3, subframes two and four: the rule of every index, as in the Rust. Above 31 the lag reader refuses.
-    fn relative(index: u8, previous: u16) -> Self
-        ensures { result ≡ relative_lag (relative_start handset previous) index }
+    fn relative(index: u8, previous: u16, upper: UpperLag) -> Self
+        ensures { result ≡ relative_lag (relative_start (upper_samples upper) previous) index }
     {
-        let start = Window::relative(previous).start;
+        let start = Window::relative(previous, upper).start;
         let fraction = Fraction::at(index);
         PitchLag {
             samples: start + (index as u16 + 2) / 3 - 1,
@@ -198,13 +228,13 @@ impl PitchLag {
     }
 
     // The lag of an index in a subframe, after the whole lag `previous`.
-    pub fn decoded(subframe: Subframe, index: u8, previous: u16) -> Self
-        ensures { result ≡ lag_of handset subframe previous index }
+    pub fn decoded(subframe: Subframe, index: u8, previous: u16, upper: UpperLag) -> Self
+        ensures { result ≡ lag_of (upper_samples upper) subframe previous index }
     {
         if subframe.absolute() {
             return PitchLag::from_absolute(index);
         }
-        PitchLag::relative(index, previous)
+        PitchLag::relative(index, previous, upper)
     }
 
     // Its index in a subframe, in a window that starts at `start`.
@@ -247,27 +277,27 @@ pub struct Window {
 
 impl Window {
     // Of 7 lags round an open-loop lag.
-    pub fn absolute(centre: u16) -> Self
-        ensures { result ≡ record { start = absolute_start handset centre; span = 6 } }
+    pub fn absolute(centre: u16, upper: UpperLag) -> Self
+        ensures { result ≡ record { start = absolute_start (upper_samples upper) centre; span = 6 } }
     {
-        Window::around(centre, ABSOLUTE_RADIUS, ABSOLUTE_SPAN)
+        Window::around(centre, ABSOLUTE_RADIUS, ABSOLUTE_SPAN, upper)
     }
 
     // Of 10 lags round the lag before.
-    pub fn relative(previous: u16) -> Self
-        ensures { result ≡ record { start = relative_start handset previous; span = 9 } }
+    pub fn relative(previous: u16, upper: UpperLag) -> Self
+        ensures { result ≡ record { start = relative_start (upper_samples upper) previous; span = 9 } }
     {
-        Window::around(previous, RELATIVE_RADIUS, RELATIVE_SPAN)
+        Window::around(previous, RELATIVE_RADIUS, RELATIVE_SPAN, upper)
     }
 
-    // From `radius` below the centre, held so that its lags lie in the limits of an open-loop lag.
-    fn around(centre: u16, radius: u16, span: u16) -> Self
-        requires { span ≤ 123 }
-        ensures { result ≡ record { start = window_start span radius handset centre; span = span } }
+    // From `radius` below the centre, held so that its lags lie from 20 to the upper lag.
+    fn around(centre: u16, radius: u16, span: u16, upper: UpperLag) -> Self
+        requires { span ≤ 100 }
+        ensures { result ≡ record { start = window_start span radius (upper_samples upper) centre; span = span } }
     {
         let start = centre
             .saturating_sub(radius)
-            .clamp(OpenLoopLag::MIN, OpenLoopLag::MAX - span);
+            .clamp(OpenLoopLag::MIN, upper.samples() - span);
         Window { start, span }
     }
 }

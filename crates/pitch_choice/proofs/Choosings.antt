@@ -13,7 +13,8 @@ use Rattle.fixed.specs.Lists.{at}
 use Rattle.fixed.proofs.Bounds.{either}
 use Rattle.fixed.proofs.Choices.{best_in}
 use Rattle.pitch.specs.declared.Fraction.TheVariants.{MinusThird, Zero}
-use Rattle.pitch.proofs.Indexings.{in_thirds}
+use Rattle.pitch.specs.declared.PitchLag.{PitchLag}
+use Rattle.pitch.specs.Statement.{in_thirds, AbsoluteChoice, RelativeChoice}
 use Rattle.pitch_choice.specs.Choices.{Interpol_6, step_value, best_lag, best_step, settled, step_of, chosen, choose}
 
 module _ (cs : List ℤ) (lag : ℕ) where
@@ -72,23 +73,27 @@ module _ (t : Bool) (cs : List ℤ) (start span : ℕ) (h : 20 ≤ start) where
       let l = best_lag cs start span in rw chosen_thirds (omega (arith, (best_lag_in cs start span).1, step_of_in t cs l))
 
 -- an absolute lag: by thirds up to 85 and −1, or whole from 85 on
-pub chosen_absolute : (cs : List ℤ) (start : ℕ) → 20 ≤ start →
-    (in_thirds (chosen true cs start 6) ≤ 255)
-    ⊎ ((85 ≤ (chosen true cs start 6).samples) × ((chosen true cs start 6).samples ≤ start + 6) × ((chosen true cs start 6).fraction ≡ Zero))
+pub absolute_choice : (cs : List ℤ) (start : ℕ) → 20 ≤ start → AbsoluteChoice start (chosen true cs start 6)
 unfolding chosen
-chosen_absolute cs start h = go (ltb 84 (best_lag cs start 6)) refl
+absolute_choice cs start h = record { from = chosen_low true cs start 6 h; to = to }
   where
     l : ℕ
     l = best_lag cs start 6
 
-    go : (t : Bool) → ltb 84 l ≡ t →
-        (in_thirds (settled l (step_of true cs l)) ≤ 255)
-        ⊎ ((85 ≤ (settled l (step_of true cs l)).samples)
-        × ((settled l (step_of true cs l)).samples ≤ start + 6)
-        × ((settled l (step_of true cs l)).fraction ≡ Zero))
+    To : PitchLag → Type 0
+    To c = (in_thirds c ≤ 255) ⊎ ((85 ≤ c.samples) × (c.samples ≤ start + 6) × (c.fraction ≡ Zero))
+
+    go : (t : Bool) → ltb 84 l ≡ t → To (settled l (step_of true cs l))
     go true q = rw q (inr (ltb-true 84 l q, (best_lag_in cs start 6).1, refl))
     go false q =
         rw q (inl (rw (settled_thirds l (best_step cs l 4) (omega (arith, (best_lag_in cs start 6).0)) (best_step_in cs l 4)) (omega (arith, ltb-false 84 l q, best_step_in cs l 4))))
+
+    to : To (chosen true cs start 6)
+    to = go (ltb 84 l) refl
+
+-- a relative lag
+pub relative_choice : (cs : List ℤ) (start : ℕ) → 20 ≤ start → RelativeChoice start (chosen false cs start 9)
+relative_choice cs start h = record { from = chosen_low false cs start 9 h; to = chosen_high false cs start 9 h }
 
 -- a search has such a window
 pub choose_in : (t : Bool) (cs : List ℤ) (start span : ℕ) → 20 ≤ start → start + span ≤ 143 → choose t cs start span ≡ chosen t cs start span

@@ -1,4 +1,4 @@
--- The statement on the kept start, and the two searches at its ends by computing.
+-- The statement on the kept start, and the searches at its ends and those of a player by computing.
 use mathlib.Core.Path.{◌≡◌, refl, sym, ap, ◌∙◌}
 use mathlib.Core.List.{List}
 use Prim.Native.Nat.{ℕ}
@@ -7,12 +7,15 @@ use lib.IntN.{ℤ}
 use Rattle.refusal.specs.Refused.{values, accepts}
 use Rattle.refusal.specs.Checks.{Outcome}
 use Rattle.refusal.proofs.Checkings.{value_or}
-use Rattle.pitch.specs.Windows.{handset}
+use Rattle.pitch.specs.Kinds.{upper_samples}
+use Rattle.pitch.proofs.Uppers.{upper_from_40, upper_to_143}
+use Rattle.pitch_window.specs.Windows.{centre_of}
 use Rattle.pitch_window.proofs.Sendings.{near_start}
 use Rattle.pitch_search.specs.declared.Search.{Search}
 use Rattle.pitch_search.specs.declared.SearchedPitch.{SearchedPitch}
 use Rattle.pitch_search.specs.Searches.{accepted, Pitch_fr}
 use Rattle.pitch_search.specs.Statement.{KeepsStart, EveryStart, Ends}
+use Rattle.pitch_search.specs.Players.{PlayersSearches}
 use Rattle.pitch_search.specs.Opens.{search_opens}
 use Rattle.pitch_search.proofs.Outcomes.{through, unchanged}
 
@@ -25,7 +28,8 @@ module _ (s : Search) (exc target hs : List ℤ) (first second n : ℕ) (p : Sea
 
   keeps_start : KeepsStart s first second p.lag (Pitch_fr s exc target hs first second n).after
   keeps_start =
-      let near = near_start handset (omega arith) (omega arith) s.previous.samples first second exc target hs s.next in
+      let u = s.upper in
+      let near = near_start (upper_samples u) (upper_from_40 u) (upper_to_143 u) (centre_of s.next s.previous.samples first second) exc target hs s.next in
       rw (outcome, found) (record { by_rule = refl; from = omega (arith, near.0); to = omega (arith, near.1) })
 
 pub every_start : EveryStart
@@ -34,4 +38,8 @@ every_start s exc target hs first second n = (keeps_start s exc target hs first 
 
 pub ends : Ends
 unfolding Ends search_opens
-ends = (refl, refl)
+ends = (refl, refl, refl)
+
+pub players_searches : PlayersSearches
+unfolding PlayersSearches search_opens
+players_searches = (refl, refl, refl, refl)

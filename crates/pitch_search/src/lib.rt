@@ -4,9 +4,9 @@
 ghost use Rattle.std.specs.Prelude.{◌≡◌, IfOk};
 ghost use Rattle.refusal.specs.Refused.{values, refused, told, put};
 ghost use Rattle.refusal.specs.Checks.{checked, told_step};
-ghost use Rattle.pitch_search.specs.Searches.{fresh_search, accepted, search_checks, Pitch_fr};
+ghost use Rattle.pitch_search.specs.Searches.{fresh_search, reset_search, accepted, search_checks, Pitch_fr};
 
-use pitch::{OpenLoopLag, PitchLag, Subframe};
+use pitch::{OpenLoopLag, PitchLag, Subframe, UpperLag};
 use refusal::{Refusal, Step};
 
 #[derive(Clone, Copy, Debug, PartialEq, Eq)]
@@ -15,11 +15,12 @@ pub struct SearchedPitch {
     pub index: u8,
 }
 
-// The searcher: the lag that it sent last, the subframe that it expects, and the start of its last window, 0 when fresh.
+// The searcher: the lag that it sent last, the subframe that it expects, the upper lag that it is made with, and the start of its last window, 0 when fresh. With the upper lag in front of the start it has 8 bytes.
 #[derive(Clone, Copy, Debug, PartialEq, Eq)]
 pub struct Search {
     pub previous: PitchLag,
     pub next: Subframe,
+    pub upper: UpperLag,
     pub start: u16,
 }
 
@@ -34,20 +35,22 @@ struct Asked<'a> {
 }
 
 impl Search {
-    pub fn fresh() -> Self
-        ensures { result ≡ fresh_search }
+    pub fn fresh(upper: UpperLag) -> Self
+        ensures { result ≡ fresh_search upper }
     {
         Search {
             previous: pitch::fresh_lag(),
             next: Subframe::One,
+            upper,
             start: 0,
         }
     }
 
+    // Keeps the upper lag.
     pub fn reset(self) -> Self
-        ensures { result ≡ fresh_search }
+        ensures { result ≡ reset_search self }
     {
-        Search::fresh()
+        Search::fresh(self.upper)
     }
 
     // The excitation: 154 words of the past, the subframe's 40 after them. First and second: the open-loop lags of the two half frames.
@@ -87,8 +90,8 @@ impl Search {
         let target = refusal::of_length(target)?;
         let impulse_q12 = refusal::of_length(impulse_q12)?;
         let named = Subframe::try_from(subframe)?;
-        let first = OpenLoopLag::try_new(first)?;
-        let second = OpenLoopLag::try_new(second)?;
+        let first = OpenLoopLag::try_within(first, self.upper)?;
+        let second = OpenLoopLag::try_within(second, self.upper)?;
         if named != self.next {
             return Err(Refusal::Order(u8::from(self.next)));
         }
@@ -102,12 +105,13 @@ impl Search {
     }
 
     // The Rust answers the lag that the index decodes to: it is the chosen one.
-    #[tactic(auto, using(pitch_window::proofs::Sendings::sent_fits, pitch_window::proofs::Sendings::sent_back))]
+    #[tactic(auto, using(pitch::proofs::Uppers::upper_from_40, pitch::proofs::Uppers::upper_to_143, pitch_window::proofs::Sendings::sent_fits, pitch_window::proofs::Sendings::sent_back))]
     fn accepted(self, asked: Asked) -> Step<SearchedPitch, Self>
         ensures { told_step result ≡ accepted self asked.entry.excitation.now asked.entry.target.now asked.entry.impulse_q12.now asked.entry.first.0 asked.entry.second.0 }
     {
         let due = self.next;
         let previous = self.previous.samples;
+        let upper = self.upper;
         let Asked {
             excitation,
             target,
@@ -115,25 +119,17 @@ impl Search {
             first,
             second,
         } = asked;
-        let first = first.samples();
-        let second = second.samples();
-        let start = pitch_window::window(due, previous, first, second).start;
-        let chosen = pitch_window::chosen_lag(
-            due,
-            previous,
-            first,
-            second,
-            excitation,
-            target,
-            impulse_q12,
-        );
+        let centre = pitch_window::centre(due, previous, first.samples(), second.samples());
+        let start = pitch_window::window(due, centre, upper).start;
+        let chosen = pitch_window::chosen_lag(due, centre, upper, excitation, target, impulse_q12);
         let index = chosen.index(due, start) as u8;
-        let lag = PitchLag::decoded(due, index, previous);
+        let lag = PitchLag::decoded(due, index, previous, upper);
         Step {
             answer: Ok(SearchedPitch { lag, index }),
             after: Search {
                 previous: lag,
                 next: due.next(),
+                upper,
                 start,
             },
         }

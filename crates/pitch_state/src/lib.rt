@@ -4,35 +4,41 @@
 ghost use Rattle.std.specs.Prelude.{cond, ◌≡◌};
 ghost use Rattle.refusal.specs.Refused.{values, refused, accepts, told};
 ghost use Rattle.refusal.specs.Checks.{checked, told_step};
-ghost use Rattle.pitch_state.specs.States.{in_numbers, searcher_numbers, reader_numbers, searcher_of, reader_of, previous_of, subframe_of, fresh_state};
+ghost use Rattle.pitch_state.specs.States.{in_numbers, searcher_numbers, reader_numbers, searcher_of, reader_of, previous_of, subframe_of, upper_of, fresh_state};
 ghost use Rattle.pitch_state.specs.Calls.{known_subframes, call_checks, search_in_numbers, read_in_numbers};
 
 use lag_reader::Reader;
-use pitch::{Fraction, PitchLag, Subframe};
+use pitch::{Fraction, PitchLag, Subframe, UpperLag};
 use pitch_search::{Search, SearchedPitch};
 use refusal::{Refusal, Step};
 
-// The previous whole lag, its fraction in thirds, the subframe expected next, the start of the last window.
+// The previous whole lag, its fraction in thirds, the subframe expected next, the upper lag, the start of the last window.
 #[repr(C)]
 #[derive(Clone, Copy, Debug, PartialEq, Eq)]
 pub struct PitchState {
     pub samples: u16,
     pub fraction: i16,
     pub next: u8,
+    pub upper: u8,
     pub start: u16,
 }
 
-pub fn fresh() -> PitchState
-    ensures { result ≡ fresh_state }
+pub fn fresh(upper: UpperLag) -> PitchState
+    ensures { result ≡ fresh_state upper }
 {
-    PitchState::from(Reader::fresh())
+    PitchState::from(Reader::fresh(upper))
 }
 
 impl From<Search> for PitchState {
     ghost from_gives = { λ searcher result. result ≡ searcher_numbers searcher };
 
     fn from(searcher: Search) -> Self {
-        in_numbers(searcher.previous, searcher.next, searcher.start)
+        in_numbers(
+            searcher.previous,
+            searcher.next,
+            searcher.upper,
+            searcher.start,
+        )
     }
 }
 
@@ -40,17 +46,18 @@ impl From<Reader> for PitchState {
     ghost from_gives = { λ reader result. result ≡ reader_numbers reader };
 
     fn from(reader: Reader) -> Self {
-        in_numbers(reader.previous, reader.next, reader.start)
+        in_numbers(reader.previous, reader.next, reader.upper, reader.start)
     }
 }
 
-fn in_numbers(previous: PitchLag, next: Subframe, start: u16) -> PitchState
-    ensures { result ≡ in_numbers previous next start }
+fn in_numbers(previous: PitchLag, next: Subframe, upper: UpperLag, start: u16) -> PitchState
+    ensures { result ≡ in_numbers previous next upper start }
 {
     PitchState {
         samples: previous.samples,
         fraction: i16::from(previous.fraction),
         next: u8::from(next),
+        upper: upper.samples() as u8,
         start,
     }
 }
@@ -62,6 +69,7 @@ impl From<PitchState> for Search {
         Search {
             previous: previous_of(state),
             next: subframe_of(state.next),
+            upper: upper_of(state.upper),
             start: state.start,
         }
     }
@@ -74,6 +82,7 @@ impl From<PitchState> for Reader {
         Reader {
             previous: previous_of(state),
             next: subframe_of(state.next),
+            upper: upper_of(state.upper),
             start: state.start,
         }
     }
@@ -86,6 +95,16 @@ fn previous_of(state: PitchState) -> PitchLag
         samples: state.samples,
         fraction: Fraction::Zero,
     }
+}
+
+// 120 is the player, every other number the handset.
+fn upper_of(number: u8) -> UpperLag
+    ensures { result ≡ upper_of number }
+{
+    if number as u16 == UpperLag::PLAYER {
+        return UpperLag::Player;
+    }
+    UpperLag::Handset
 }
 
 // Numbers outside 1 to 4 are refused before anything uses it.

@@ -8,12 +8,20 @@ use Rattle.pitch.specs.Windows.{absolute_start, relative_start}
 use Rattle.pitch_correlation.specs.Correlations.{Norm_Corr}
 use Rattle.pitch_choice.specs.Choices.{chosen}
 
--- the window's start under an upper lag: 'the centre is the first open-loop lag for subframe 1, the second for 3', the previous whole lag for 2 and 4
+-- 'the centre is the first open-loop lag for subframe 1, the second for 3', the previous whole lag for 2 and 4
+abbrev pub centre_of : Subframe → ℕ → ℕ → ℕ → ℕ
+centre_of One previous first second = first
+centre_of Two previous first second = previous
+centre_of Three previous first second = second
+centre_of Four previous first second = previous
+
+-- the start of the window round a centre, under an upper lag
+abbrev pub start_round : ℕ → Subframe → ℕ → ℕ
+start_round upper s centre = cond (absolute s) (absolute_start upper centre) (relative_start upper centre)
+
+-- and so of a search, round its centre
 abbrev pub start_of : ℕ → Subframe → ℕ → ℕ → ℕ → ℕ
-start_of upper One previous first second = absolute_start upper first
-start_of upper Two previous first second = relative_start upper previous
-start_of upper Three previous first second = absolute_start upper second
-start_of upper Four previous first second = relative_start upper previous
+start_of upper s previous first second = start_round upper s (centre_of s previous first second)
 
 -- how many lags a window has, less one
 abbrev pub span_of : Subframe → ℕ

@@ -2,37 +2,45 @@
 #![tactic(auto)]
 
 ghost use Rattle.std.specs.Prelude.{◌≡◌};
-ghost use Rattle.pitch.specs.Windows.{handset};
-ghost use Rattle.pitch_window.specs.Windows.{start_of, span_of, pitch_in};
+ghost use Rattle.pitch.specs.Kinds.{upper_samples};
+ghost use Rattle.pitch_window.specs.Windows.{centre_of, start_round, span_of, pitch_in};
 
 use fixed::sizes::INTERPOLATION_SAMPLES;
-use pitch::{PitchLag, Subframe, Window};
+use pitch::{PitchLag, Subframe, UpperLag, Window};
 
-// First and second are the open-loop lags of the two half frames.
-pub fn window(subframe: Subframe, previous: u16, first: u16, second: u16) -> Window
-    ensures { result ≡ record { start = start_of handset subframe previous first second; span = span_of subframe } }
+// First and second are the open-loop lags of the two half frames, previous is the whole lag before.
+pub fn centre(subframe: Subframe, previous: u16, first: u16, second: u16) -> u16
+    ensures { result ≡ centre_of subframe previous first second }
 {
     match subframe {
-        Subframe::One => Window::absolute(first),
-        Subframe::Three => Window::absolute(second),
-        Subframe::Two | Subframe::Four => Window::relative(previous),
+        Subframe::One => first,
+        Subframe::Three => second,
+        Subframe::Two | Subframe::Four => previous,
     }
 }
 
+pub fn window(subframe: Subframe, centre: u16, upper: UpperLag) -> Window
+    ensures { result ≡ record { start = start_round (upper_samples upper) subframe centre; span = span_of subframe } }
+{
+    if subframe.absolute() {
+        return Window::absolute(centre, upper);
+    }
+    Window::relative(centre, upper)
+}
+
 // The lag and the fraction chosen in that window. Lists of other lengths have the correlations 0.
-#[tactic(auto, using(crate::proofs::Sendings::start_low, crate::proofs::Sendings::start_high, pitch_choice::proofs::Choosings::choose_in), unfolding(crate::specs::Windows::pitch_in))]
+#[tactic(auto, using(pitch::proofs::Uppers::upper_from_40, pitch::proofs::Uppers::upper_to_143, crate::proofs::Sendings::start_low, crate::proofs::Sendings::start_high, pitch_choice::proofs::Choosings::choose_in), unfolding(crate::specs::Windows::pitch_in))]
 pub fn chosen_lag(
     subframe: Subframe,
-    previous: u16,
-    first: u16,
-    second: u16,
+    centre: u16,
+    upper: UpperLag,
     excitation: &[i16],
     target: &[i16],
     impulse: &[i16],
 ) -> PitchLag
-    ensures { result ≡ pitch_in subframe (start_of handset subframe previous first second) excitation.now target.now impulse.now }
+    ensures { result ≡ pitch_in subframe (start_round (upper_samples upper) subframe centre) excitation.now target.now impulse.now }
 {
-    let window = window(subframe, previous, first, second);
+    let window = window(subframe, centre, upper);
     let low = window.start as usize;
     let correlation = pitch_correlation::normalized_correlation(
         excitation,

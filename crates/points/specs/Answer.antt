@@ -4,8 +4,9 @@ use Rattle.fixed.specs.Lists.{at}
 use Rattle.refusal.specs.Refused.{Told, values, put}
 use Rattle.logarithm.specs.Powers.{Pow2}
 use Rattle.pitch.specs.declared.PitchLag.{PitchLag}
-use Rattle.pitch.specs.Kinds.{thirds}
-use Rattle.pitch.specs.Windows.{handset, relative_start}
+use Rattle.pitch.specs.declared.UpperLag.TheVariants.{Handset}
+use Rattle.pitch.specs.Kinds.{thirds, upper_samples}
+use Rattle.pitch.specs.Windows.{relative_start}
 use Rattle.pitch.specs.Indexes.{absolute_index, absolute_lag, relative_lag}
 use Rattle.open_loop.specs.Detectors.{fresh_detector, Pitch_ol}
 use Rattle.pitch_search.specs.declared.Search.{Search}
@@ -56,11 +57,11 @@ pulse_search target hs lag gain = pulses target hs lag (record { 0 = gain }) (le
 unfoldable pub answer : Question → Told (List ℤ)
 answer (powerOfTwo e f) = put (λ v. v ∷ []) (Pow2 e f)
 answer (absoluteReading index) = values (lag_numbers (absolute_lag index))
-answer (relativeReading previous index) = values (lag_numbers (relative_lag (relative_start handset previous) index))
+answer (relativeReading previous index) = values (lag_numbers (relative_lag (relative_start (upper_samples Handset) previous) index))
 answer (absoluteIndex l) = values (pos (absolute_index l) ∷ [])
 answer (openLoop samples) = put (λ l. printed (open_line l)) (Pitch_ol fresh_detector samples).answer
 answer (pitchAfter ns exc target hs first second n) =
-    put (λ p. printed (pitch_line p)) (Pitch_fr (searched_after ns exc target hs first second fresh_search) exc target hs first second n).answer
+    put (λ p. printed (pitch_line p)) (Pitch_fr (searched_after ns exc target hs first second (fresh_search Handset)) exc target hs first second n).answer
 answer (pulseWords target hs lag gain) = put (λ w. printed (pulse_line w)) (pulse_search target hs lag gain).answer
 answer (innovationAt places target hs lag gain) = put (λ w. map (at (pulse_search target hs lag gain).after.innovation) places) (pulse_search target hs lag gain).answer
 answer (pitchGain target adaptive) = put (λ g. g.gain_q14 ∷ []) (pitch_gain target adaptive)

@@ -8,36 +8,32 @@ use Prim.Native.Nat.{ℕ, ◌+◌, ◌%◌, ◌≤◌, ◌<◌}
 use native.Mathlib.Omega.{arith}
 use lib.Dec.{leb}
 use lib.IntN.{ℤ}
-use borrow.Author.Tests.{le-leb, eq-eqb, eqb-true, leb-true}
+use borrow.Author.Tests.{le-leb, eqb-true, leb-true}
 use Rattle.fixed.proofs.Clips.{contradiction}
 use Rattle.refusal.specs.Refused.{Told, values, refused, accepts}
-use Rattle.refusal.specs.Checks.{Outcome, within}
-use Rattle.refusal.proofs.Checkings.{Passes, value_or, passed, failed}
+use Rattle.refusal.specs.Checks.{Outcome}
+use Rattle.refusal.proofs.Checkings.{Passes, value_or, failed}
 use Rattle.pitch.specs.declared.Subframe.{Subframe}
 use Rattle.pitch.specs.declared.Subframe.TheVariants.{One, Two, Three, Four}
 use Rattle.pitch.specs.declared.PitchLag.{PitchLag}
 use Rattle.lag_reader.specs.declared.Reader.{Reader}
-use Rattle.pitch.specs.Kinds.{subframe_number, absolute, following}
-use Rattle.pitch.specs.Windows.{handset}
+use Rattle.pitch.specs.declared.UpperLag.{UpperLag}
+use Rattle.pitch.specs.Kinds.{subframe_number, absolute, following, upper_samples}
+use Rattle.pitch.proofs.Uppers.{upper_from_40, upper_to_143}
 use Rattle.pitch.specs.Indexes.{lag_of}
-use Rattle.lag_reader.specs.Readers.{start_used, read_in, reading_checks, read}
+use Rattle.lag_reader.specs.Readers.{reset_reader, start_used, read_in, reading_checks, read}
+use Rattle.lag_reader.proofs.Readings.{let_through as reading_let_through}
 use Rattle.pitch_search.specs.declared.Search.{Search}
 use Rattle.pitch_search.specs.declared.SearchedPitch.{SearchedPitch}
 use Rattle.pitch_window.specs.Windows.{start_of}
 use Rattle.pitch_window.proofs.Sendings.{sent_back}
-use Rattle.pitch_search.specs.Searches.{accepted}
+use Rattle.pitch_search.specs.Searches.{reset_search, accepted}
 use Rattle.pitch_search.proofs.Outcomes.{is_expected, through, unchanged}
 use Rattle.recovery.specs.Runs.{Input, Entry, search, reset, stray, State, fresh_state, Event, Step, answered, searched, step, run}
 use Rattle.recovery.specs.Windows.{SameStart, WindowsAgree}
 use Rattle.recovery.specs.Statement.{Last, none, last, last_after, due, one_or_three, FollowsIntact, WithinWidth, Stray, Recovers, Each, Recovery}
 
 -- ---- subframes by their numbers
-numbered : (s : Subframe) → within 1 4 (subframe_number s) ≡ true
-numbered One = refl
-numbered Two = refl
-numbered Three = refl
-numbered Four = refl
-
 one_or_three_is : (s : Subframe) → one_or_three (subframe_number s) ≡ absolute s
 one_or_three_is One = refl
 one_or_three_is Two = refl
@@ -68,9 +64,7 @@ two_or_four Four e = refl
 -- ---- the reader
 -- a reading of the expected subframe, with an index within its width
 taken : (r : Reader) (n i : ℕ) → n ≡ subframe_number r.next → i ≤ cond (absolute r.next) 255 31 → read r n i ≡ read_in r.next r i
-unfolding read
-taken r n i e w =
-    passed r _ (reading_checks r n i) (rw e (numbered r.next), (eq-eqb n (subframe_number r.next) e, (fits (absolute r.next) w, tt)))
+taken r n i e w = reading_let_through r n i e (fits (absolute r.next) w)
   where
     fits : (t : Bool) → i ≤ cond t 255 31 → (t || leb i 31) ≡ true
     fits true h = refl
@@ -94,141 +88,168 @@ stray_refused r n i h = failed r _ (reading_checks r n i) (no h)
         let o = two_or_four r.next (rw e at m) in
         absurd (omega (arith, above (absolute r.next) o c))
 
--- an absolute index is read without the lag before
-without_previous : (s : Subframe) (a b i : ℕ) → absolute s ≡ true → lag_of handset s a i ≡ lag_of handset s b i
-without_previous s a b i t = rw t
+-- an absolute index is read without the lag before, and without the upper lag
+by_itself : (s : Subframe) (u v a b i : ℕ) → absolute s ≡ true → lag_of u s a i ≡ lag_of v s b i
+by_itself s u v a b i t = rw t
 
 -- ---- the searcher
 abbrev let_through : Search → Input → Outcome SearchedPitch Search
 let_through s x = accepted s x.excitation x.target x.impulse x.first x.second
 
--- in subframes two and four the windows start alike after the same whole lag
-same_window : (s : Subframe) (a b first second : ℕ) → absolute s ≡ false → a ≡ b → start_used handset s b ≡ start_of handset s a first second
-same_window One a b first second t e = contradiction (sym t)
-same_window Two a b first second t e = rw e
-same_window Three a b first second t e = contradiction (sym t)
-same_window Four a b first second t e = rw e
+-- in subframes two and four the windows start alike after the same whole lag, under the same upper lag
+same_window : (s : Subframe) (u v a b first second : ℕ) → absolute s ≡ false → u ≡ v → a ≡ b → start_used v s b ≡ start_of u s a first second
+same_window One u v a b first second t d e = contradiction (sym t)
+same_window Two u v a b first second t d e = rw (d, e)
+same_window Three u v a b first second t d e = contradiction (sym t)
+same_window Four u v a b first second t d e = rw (d, e)
 
--- ---- the invariant
-pub record InStep (σ : State) (m : Last) : Type 0 where
+-- ---- the invariant of a run whose searcher and reader are made with one upper lag
+pub record InStep (upper : UpperLag) (σ : State) (m : Last) : Type 0 where
+  pub searchers : σ.searcher.upper ≡ upper
+  pub readers : σ.reader.upper ≡ upper
   pub is_due : subframe_number σ.searcher.next ≡ due m
   pub same : σ.reader.next ≡ σ.searcher.next
   pub agree : absolute σ.searcher.next ≡ false → FollowsIntact m → σ.searcher.previous.samples ≡ σ.reader.previous.samples
 
-fresh_in_step : InStep fresh_state none
-fresh_in_step = record { is_due = refl; same = refl; agree = λ t h. absurd h }
+fresh_in_step : (upper : UpperLag) → InStep upper (fresh_state upper) none
+fresh_in_step upper = record { searchers = refl; readers = refl; is_due = refl; same = refl; agree = λ t h. absurd h }
 
 -- of one step
 abbrev Of : (Last → State → Event → State → Type 0) → Last → Step → Type 0
 Of P m t = P m t.before t.event t.after
 
 -- what is claimed of an event: by demand 3, and of the windows' starts
-abbrev Claims : Last → State → Event → State → Type 0
-Claims m σ e τ = Recovers m σ e τ × SameStart m σ e τ
+abbrev Claims : UpperLag → Last → State → Event → State → Type 0
+Claims upper m σ e τ = Recovers upper m σ e τ × SameStart m σ e τ
 
 -- what an entry must do: meet the claims, and keep the invariant
-abbrev Keeps : Last → Step → Type 0
-Keeps m t = Of Claims m t × InStep t.after (last_after m t.event)
+abbrev Keeps : UpperLag → Last → Step → Type 0
+Keeps upper m t = Of (Claims upper) m t × InStep upper t.after (last_after m t.event)
 
-module _ (σ : State) (m : Last) (inv : InStep σ m) (x : Input) (i : ℕ) where
+module _ (upper : UpperLag) (σ : State) (m : Last) (inv : InStep upper σ m) where
   abbrev s : Search
   s = σ.searcher
 
   abbrev r : Reader
   r = σ.reader
 
-  module _ (p : SearchedPitch) (h : (searched s x).answer ≡ values p) (w : i ≤ cond (one_or_three x.subframe) 255 31) where
-    expected : x.subframe ≡ subframe_number s.next
-    expected = is_expected s x.excitation x.target x.impulse x.first x.second x.subframe (ap accepts h)
+  same_upper : s.upper ≡ r.upper
+  same_upper = inv.searchers ∙ sym inv.readers
 
-    outcome : searched s x ≡ let_through s x
-    outcome = through s x.excitation x.target x.impulse x.first x.second x.subframe (ap accepts h)
+  module _ (x : Input) (i : ℕ) where
+    module _ (p : SearchedPitch) (h : (searched s x).answer ≡ values p) (w : i ≤ cond (one_or_three x.subframe) 255 31) where
+      expected : x.subframe ≡ subframe_number s.next
+      expected = is_expected s x.excitation x.target x.impulse x.first x.second x.subframe (ap accepts h)
 
-    found : p ≡ value_or p (let_through s x).answer
-    found = ap (value_or p) (sym h ∙ ap (λ (o : Outcome SearchedPitch Search). o.answer) outcome)
+      outcome : searched s x ≡ let_through s x
+      outcome = through s x.excitation x.target x.impulse x.first x.second x.subframe (ap accepts h)
 
-    reading : read r x.subframe i ≡ read_in s.next r i
-    reading =
-        let e : x.subframe ≡ subframe_number r.next = expected ∙ ap subframe_number (sym inv.same) in
-        let v : i ≤ cond (absolute r.next) 255 31 = rw (inv.same, ← (one_or_three_is s.next), ← expected) w in
-        taken r x.subframe i e v ∙ ap (λ (s : Subframe). read_in s r i) inv.same
+      found : p ≡ value_or p (let_through s x).answer
+      found = ap (value_or p) (sym h ∙ ap (λ (o : Outcome SearchedPitch Search). o.answer) outcome)
 
-    -- an intact index is read as it was sent, where the reader holds the searcher's lag or needs none
-    own_back : i ≡ p.index → lag_of handset s.next s.previous.samples i ≡ p.lag
-    own_back e =
-        ap (lag_of handset s.next s.previous.samples) (e ∙ ap (λ (q : SearchedPitch). q.index) found)
-        ∙ sent_back handset (omega arith) (omega arith) s.previous.samples x.first x.second x.excitation x.target x.impulse s.next
-        ∙ sym (ap (λ (q : SearchedPitch). q.lag) found)
+      reading : read r x.subframe i ≡ read_in s.next r i
+      reading =
+          let e : x.subframe ≡ subframe_number r.next = expected ∙ ap subframe_number (sym inv.same) in
+          let v : i ≤ cond (absolute r.next) 255 31 = rw (inv.same, ← (one_or_three_is s.next), ← expected) w in
+          taken r x.subframe i e v ∙ ap (λ (s : Subframe). read_in s r i) inv.same
 
-    read_back : i ≡ p.index → (absolute s.next ≡ true) ⊎ (s.previous.samples ≡ r.previous.samples) → lag_of handset s.next r.previous.samples i ≡ p.lag
-    read_back e (inl t) = without_previous s.next r.previous.samples s.previous.samples i t ∙ own_back e
-    read_back e (inr q) = ap (λ (k : ℕ). lag_of handset s.next k i) (sym q) ∙ own_back e
+      -- an intact index is read as it was sent, where the reader holds the searcher's lag or needs none
+      own_back : i ≡ p.index → lag_of (upper_samples s.upper) s.next s.previous.samples i ≡ p.lag
+      own_back e =
+          let u = s.upper in
+          ap (lag_of (upper_samples u) s.next s.previous.samples) (e ∙ ap (λ (q : SearchedPitch). q.index) found)
+          ∙ sent_back (upper_samples u) (upper_from_40 u) (upper_to_143 u) s.previous.samples x.first x.second x.excitation x.target x.impulse s.next
+          ∙ sym (ap (λ (q : SearchedPitch). q.lag) found)
 
-    holds_it : (one_or_three x.subframe ≡ true) ⊎ FollowsIntact m → (absolute s.next ≡ true) ⊎ (s.previous.samples ≡ r.previous.samples)
-    holds_it (inl t) = inl (sym (one_or_three_is s.next) ∙ ap one_or_three (sym expected) ∙ t)
-    holds_it (inr f) = go (absolute s.next) refl
-      where
-        go : (t : Bool) → absolute s.next ≡ t → (absolute s.next ≡ true) ⊎ (s.previous.samples ≡ r.previous.samples)
-        go true q = inl q
-        go false q = inr (inv.agree q f)
+      read_back : i ≡ p.index → (absolute s.next ≡ true) ⊎ (s.previous.samples ≡ r.previous.samples) →
+          lag_of (upper_samples r.upper) s.next r.previous.samples i ≡ p.lag
+      read_back e (inl t) =
+          by_itself s.next (upper_samples r.upper) (upper_samples s.upper) r.previous.samples s.previous.samples i t ∙ own_back e
+      read_back e (inr q) =
+          ap (λ (u : UpperLag). lag_of (upper_samples u) s.next r.previous.samples i) (sym same_upper)
+          ∙ ap (λ (k : ℕ). lag_of (upper_samples s.upper) s.next k i) (sym q)
+          ∙ own_back e
 
-    stepped : (a : Told PitchLag) →
-        InStep (record { searcher = (let_through s x).after; reader = (read_in s.next r i).after })
-        (last (record { subframe = x.subframe; sent = p; arrived = i; reading = a }))
-    stepped a =
-        record {
-          is_due = following_is s.next ∙ ap (λ (n : ℕ). n % 4 + 1) (sym expected);
-          same = refl;
-          agree =
-              λ t e. ap (λ (l : PitchLag). l.samples) (sym (ap (λ (q : SearchedPitch). q.lag) found) ∙ sym (read_back e (inl (before_relative s.next t))));
-        }
+      holds_it : (one_or_three x.subframe ≡ true) ⊎ FollowsIntact m → (absolute s.next ≡ true) ⊎ (s.previous.samples ≡ r.previous.samples)
+      holds_it (inl t) = inl (sym (one_or_three_is s.next) ∙ ap one_or_three (sym expected) ∙ t)
+      holds_it (inr f) = go (absolute s.next) refl
+        where
+          go : (t : Bool) → absolute s.next ≡ t → (absolute s.next ≡ true) ⊎ (s.previous.samples ≡ r.previous.samples)
+          go true q = inl q
+          go false q = inr (inv.agree q f)
 
-    same_start : (x.subframe ≡ 2) ⊎ (x.subframe ≡ 4) → FollowsIntact m →
-        start_used handset s.next r.previous.samples ≡ start_of handset s.next s.previous.samples x.first x.second
-    same_start two f =
-        let t = two_or_four s.next (rw expected at two) in
-        same_window s.next s.previous.samples r.previous.samples x.first x.second t (inv.agree t f)
+      stepped : (a : Told PitchLag) →
+          InStep upper (record { searcher = (let_through s x).after; reader = (read_in s.next r i).after })
+          (last (record { subframe = x.subframe; sent = p; arrived = i; reading = a }))
+      stepped a =
+          record {
+            searchers = inv.searchers;
+            readers = inv.readers;
+            is_due = following_is s.next ∙ ap (λ (n : ℕ). n % 4 + 1) (sym expected);
+            same = refl;
+            agree =
+                λ t e. ap (λ (l : PitchLag). l.samples) (sym (ap (λ (q : SearchedPitch). q.lag) found) ∙ sym (read_back e (inl (before_relative s.next t))));
+          }
 
-    placed : Keeps m (answered σ x.subframe i (searched s x).after (values p))
-    placed = (
-      (
-        (rw reading, λ e c. ap (λ (o : Outcome PitchLag Reader). o.answer) reading ∙ ap values (read_back e (holds_it c))),
-        λ two f. rw (outcome, reading) (same_start two f),
-      ),
-      rw (outcome, reading) (stepped (read_in s.next r i).answer),
-    )
+      same_start : (x.subframe ≡ 2) ⊎ (x.subframe ≡ 4) → FollowsIntact m →
+          start_used (upper_samples r.upper) s.next r.previous.samples
+          ≡ start_of (upper_samples s.upper) s.next s.previous.samples x.first x.second
+      same_start two f =
+          let t = two_or_four s.next (rw expected at two) in
+          let u = ap upper_samples same_upper in
+          same_window s.next (upper_samples s.upper) (upper_samples r.upper) s.previous.samples r.previous.samples x.first x.second t u (inv.agree t f)
 
-  -- a refused search
-  handed_nothing : (n : ℕ) (d : ℤ) → (searched s x).answer ≡ refused n d → Keeps m (answered σ x.subframe i (searched s x).after (refused n d))
-  handed_nothing n d h = let e = unchanged s x.excitation x.target x.impulse x.first x.second x.subframe (ap accepts h) in ((rw e, tt), rw e inv)
+      placed : Keeps upper m (answered σ x.subframe i (searched s x).after (values p))
+      placed = (
+        (
+          (rw reading, λ e c. ap (λ (o : Outcome PitchLag Reader). o.answer) reading ∙ ap values (read_back e (holds_it c))),
+          λ two f. rw (outcome, reading) (same_start two f),
+        ),
+        rw (outcome, reading) (stepped (read_in s.next r i).answer),
+      )
 
-  searching : (a : Told SearchedPitch) → (searched s x).answer ≡ a →
-      Of WithinWidth m (answered σ x.subframe i (searched s x).after a) → Keeps m (answered σ x.subframe i (searched s x).after a)
-  searching (values p) h w = placed p h w
-  searching (refused n d) h w = handed_nothing n d h
+    -- a refused search
+    handed_nothing : (n : ℕ) (d : ℤ) → (searched s x).answer ≡ refused n d → Keeps upper m (answered σ x.subframe i (searched s x).after (refused n d))
+    handed_nothing n d h = let e = unchanged s x.excitation x.target x.impulse x.first x.second x.subframe (ap accepts h) in ((rw e, tt), rw e inv)
 
--- ---- one entry, and the list
-keeps : (σ : State) (m : Last) (e : Entry) → InStep σ m → Of WithinWidth m (step σ e) → Of Stray m (step σ e) → Keeps m (step σ e)
-keeps σ m (search x i) inv w t = searching σ m inv x i (searched σ.searcher x).answer refl w
-keeps σ m reset inv w t = ((refl, tt), fresh_in_step)
-keeps σ m (stray n i) inv w t =
-    let a = stray_refused σ.reader n i (rw (← inv.is_due, ← inv.same) at t) in
-    (((a.0, rw a.1), tt), rw a.1 inv)
+    searching : (a : Told SearchedPitch) → (searched s x).answer ≡ a →
+        Of WithinWidth m (answered σ x.subframe i (searched s x).after a) → Keeps upper m (answered σ x.subframe i (searched s x).after a)
+    searching (values p) h w = placed p h w
+    searching (refused n d) h w = handed_nothing n d h
 
-all : (σ : State) (m : Last) (es : List Entry) → InStep σ m → Each WithinWidth m (run σ es) → Each Stray m (run σ es) → Each Claims m (run σ es)
-unfolding run
-all σ m [] inv w t = tt
-all σ m (e ∷ es) inv (w, ws) (t, ts) = let k = keeps σ m e inv w t in (k.0, all (step σ e).after (last_after m (step σ e).event) es k.1 ws ts)
+  made_fresh_again : record { searcher = reset_search s; reader = reset_reader r } ≡ fresh_state upper
+  made_fresh_again = rw (inv.searchers, inv.readers)
 
--- one of the claims by itself
-each : (P : Last → State → Event → State → Type 0) → ((m : Last) (s : Step) → Of Claims m s → Of P m s) → (m : Last) (ss : List Step) → Each Claims m ss → Each P m ss
-each P f m [] c = tt
-each P f m (s ∷ ss) (c, cs) = (f m s c, each P f (last_after m s.event) ss cs)
+  -- ---- one entry
+  keeps : (e : Entry) → Of WithinWidth m (step σ e) → Of Stray m (step σ e) → Keeps upper m (step σ e)
+  keeps (search x i) w t = searching x i (searched s x).answer refl w
+  keeps reset w t = ((made_fresh_again, tt), rw made_fresh_again (fresh_in_step upper))
+  keeps (stray n i) w t =
+      let a = stray_refused r n i (rw (← inv.is_due, ← inv.same) at t) in
+      (((a.0, rw a.1), tt), rw a.1 inv)
+
+-- ---- the list
+module _ (upper : UpperLag) where
+  all : (σ : State) (m : Last) (es : List Entry) → InStep upper σ m → Each WithinWidth m (run σ es) → Each Stray m (run σ es) →
+      Each (Claims upper) m (run σ es)
+  unfolding run
+  all σ m [] inv w t = tt
+  all σ m (e ∷ es) inv (w, ws) (t, ts) = let k = keeps upper σ m inv e w t in (k.0, all (step σ e).after (last_after m (step σ e).event) es k.1 ws ts)
+
+  -- one of the claims by itself
+  each : (P : Last → State → Event → State → Type 0) → ((m : Last) (s : Step) → Of (Claims upper) m s → Of P m s) →
+      (m : Last) (ss : List Step) → Each (Claims upper) m ss → Each P m ss
+  each P f m [] c = tt
+  each P f m (s ∷ ss) (c, cs) = (f m s c, each P f (last_after m s.event) ss cs)
+
+  of_fresh : (P : Last → State → Event → State → Type 0) → ((m : Last) (s : Step) → Of (Claims upper) m s → Of P m s) → (es : List Entry) →
+      Each WithinWidth none (run (fresh_state upper) es) → Each Stray none (run (fresh_state upper) es) → Each P none (run (fresh_state upper) es)
+  of_fresh P f es w t = each P f none (run (fresh_state upper) es) (all (fresh_state upper) none es (fresh_in_step upper) w t)
 
 pub recovery : Recovery
 unfolding Recovery
-recovery es w t = each Recovers (λ m s c. c.0) none (run fresh_state es) (all fresh_state none es fresh_in_step w t)
+recovery upper es w t = of_fresh upper (Recovers upper) (λ m s c. c.0) es w t
 
 pub windows_agree : WindowsAgree
 unfolding WindowsAgree
-windows_agree es w t = each SameStart (λ m s c. c.1) none (run fresh_state es) (all fresh_state none es fresh_in_step w t)
+windows_agree upper es w t = of_fresh upper SameStart (λ m s c. c.1) es w t

@@ -1,22 +1,28 @@
--- A run with damaged indexes, stray readings, a refused search and a reset. All samples are 0 and both open-loop lags are 80.
+-- A handset's run with damaged indexes, stray readings, a refused search and a reset; and a player's run. All samples are 0.
 use Rattle.std.specs.Prelude.{◌≡◌, List, [], ◌∷◌, map, ℕ, pos, replicate}
 use Rattle.refusal.specs.Refused.{values, refused}
 use Rattle.pitch.specs.declared.Fraction.TheVariants.{Zero, PlusThird}
 use Rattle.pitch.specs.declared.PitchLag.{PitchLag}
-use Rattle.recovery.specs.Runs.{Input, Entry, search, reset, stray, Event, at_place, search_refused, made_fresh, strayed, Step, fresh_state, run}
+use Rattle.pitch.specs.declared.UpperLag.TheVariants.{Player, Handset}
+use Rattle.lag_reader.specs.Readers.{fresh_reader}
+use Rattle.pitch_search.specs.Searches.{fresh_search}
+use Rattle.recovery.specs.Runs.{State, Input, Entry, search, reset, stray, Event, at_place, search_refused, made_fresh, strayed, Step, fresh_state, run}
 use Rattle.recovery.specs.Statement.{none, WithinWidth, Stray, Each}
 
--- such a search
-abbrev pub silent : ℕ → Input
-silent n =
+-- such a search of subframe n; both open-loop lags are the same
+abbrev pub silent_at : ℕ → ℕ → Input
+silent_at lag n =
     record {
       subframe = n;
       excitation = replicate 194 (pos 0);
       target = replicate 40 (pos 0);
       impulse = replicate 40 (pos 0);
-      first = 80;
-      second = 80;
+      first = lag;
+      second = lag;
     }
+
+abbrev pub silent : ℕ → Input
+silent n = silent_at 80 n
 
 unfoldable pub example : List Entry
 example =
@@ -63,7 +69,38 @@ starts = (77, 0) ∷ (77, 0) ∷ (77, 0) ∷ (77, 77) ∷ (77, 77) ∷ (77, 0) �
 -- the example happens so, and meets both hypotheses
 unfoldable pub Example : Type 0
 Example =
-    (map (λ (s : Step). s.event) (run fresh_state example) ≡ happens)
-    × (map (λ (s : Step). (s.after.searcher.start, s.after.reader.start)) (run fresh_state example) ≡ starts)
-    × Each WithinWidth none (run fresh_state example)
-    × Each Stray none (run fresh_state example)
+    (map (λ (s : Step). s.event) (run (fresh_state Handset) example) ≡ happens)
+    × (map (λ (s : Step). (s.after.searcher.start, s.after.reader.start)) (run (fresh_state Handset) example) ≡ starts)
+    × Each WithinWidth none (run (fresh_state Handset) example)
+    × Each Stray none (run (fresh_state Handset) example)
+
+-- ---- a player at its upper lag: the window of subframe 2 is held to 111, and after the reset it is still a player, so 121 is refused
+unfoldable pub at_120 : List Entry
+at_120 = search (silent_at 120 1) 232 ∷ search (silent_at 120 2) 27 ∷ reset ∷ search (silent_at 121 1) 233 ∷ []
+
+abbrev pub lag_120 : PitchLag
+lag_120 = record { samples = 120; fraction = Zero }
+
+abbrev pub lag_119 : PitchLag
+lag_119 = record { samples = 119; fraction = PlusThird }
+
+-- by what is read in subframe 2
+abbrev pub players : PitchLag → List Event
+players read_as =
+    at_place (record { subframe = 1; sent = record { lag = lag_120; index = 232 }; arrived = 232; reading = values lag_120 })
+    ∷ at_place (record { subframe = 2; sent = record { lag = lag_119; index = 27 }; arrived = 27; reading = values read_as })
+    ∷ made_fresh
+    ∷ search_refused 3 (pos 121)
+    ∷ []
+
+-- a player's searcher with a handset's reader, whose window of subframe 2 starts at 115
+abbrev pub two_upper_lags : State
+two_upper_lags = record { searcher = fresh_search Player; reader = fresh_reader Handset }
+
+-- the player's reader recovers both lags; the handset's reads 123 and +1 third where 119 and +1 was sent, although both indexes are intact
+unfoldable pub PlayersExample : Type 0
+PlayersExample =
+    (map (λ (s : Step). s.event) (run (fresh_state Player) at_120) ≡ players lag_119)
+    × (map (λ (s : Step). s.event) (run two_upper_lags at_120) ≡ players (record { samples = 123; fraction = PlusThird }))
+    × Each WithinWidth none (run (fresh_state Player) at_120)
+    × Each Stray none (run (fresh_state Player) at_120)

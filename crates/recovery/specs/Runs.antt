@@ -3,11 +3,12 @@ use Rattle.std.specs.Prelude.{List, [], ◌∷◌, ℕ, ℤ}
 use Rattle.refusal.specs.Refused.{Told, values, refused}
 use Rattle.refusal.specs.Checks.{Outcome}
 use Rattle.pitch.specs.declared.PitchLag.{PitchLag}
+use Rattle.pitch.specs.declared.UpperLag.{UpperLag}
 use Rattle.lag_reader.specs.declared.Reader.{Reader}
-use Rattle.lag_reader.specs.Readers.{fresh_reader, read}
+use Rattle.lag_reader.specs.Readers.{fresh_reader, reset_reader, read}
 use Rattle.pitch_search.specs.declared.Search.{Search}
 use Rattle.pitch_search.specs.declared.SearchedPitch.{SearchedPitch}
-use Rattle.pitch_search.specs.Searches.{fresh_search, Pitch_fr}
+use Rattle.pitch_search.specs.Searches.{fresh_search, reset_search, Pitch_fr}
 
 -- what a pitch search is handed
 pub record Input : Type 0 where
@@ -32,9 +33,9 @@ pub record State : Type 0 where
   pub searcher : Search
   pub reader : Reader
 
--- at the start, and after a reset
-abbrev pub fresh_state : State
-fresh_state = record { searcher = fresh_search; reader = fresh_reader }
+-- at the start, and after a reset: 02, 'a reader made with the same upper lag as its searcher'
+abbrev pub fresh_state : UpperLag → State
+fresh_state upper = record { searcher = fresh_search upper; reader = fresh_reader upper }
 
 -- 01: 'place', a search that numbers 1 to 4 let through: what it answered, what arrived, and what the reader, called once, answered
 pub record Place : Type 0 where
@@ -73,7 +74,12 @@ searched s x = Pitch_fr s x.excitation x.target x.impulse x.first x.second x.sub
 -- one entry
 abbrev pub step : State → Entry → Step
 step σ (search x i) = answered σ x.subframe i (searched σ.searcher x).after (searched σ.searcher x).answer
-step σ reset = record { before = σ; event = made_fresh; after = fresh_state }
+step σ reset =
+    record {
+      before = σ;
+      event = made_fresh;
+      after = record { searcher = reset_search σ.searcher; reader = reset_reader σ.reader };
+    }
 step σ (stray n i) =
     record {
       before = σ;

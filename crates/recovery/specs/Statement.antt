@@ -1,6 +1,7 @@
 -- Demand 3: one statement on a list of any length.
 use Rattle.std.specs.Prelude.{◌≡◌, Bool, true, false, cond, ◌||◌, List, [], ◌∷◌, ◌⊎◌, ℕ, ◌+◌, ◌%◌, ◌≤◌, ◌<◌, eqb}
 use Rattle.refusal.specs.Refused.{values, accepts}
+use Rattle.pitch.specs.declared.UpperLag.{UpperLag}
 use Rattle.recovery.specs.Runs.{Entry, Place, Event, at_place, search_refused, made_fresh, strayed, Step, State, fresh_state, run}
 
 -- the last place with no reset after it
@@ -50,19 +51,22 @@ Stray m σ (strayed n i r) τ = (n ≡ due m → ⊥) ⊎ (((n ≡ 2) ⊎ (n ≡
 
 -- a place: the reader answers, and it answers the search's whole lag and fraction where the index is intact and the place is subframe one or three or
 -- directly follows an intact one. A refused search hands it nothing, a stray reading is refused, and both change nothing. A reset makes both fresh.
-abbrev pub Recovers : Last → State → Event → State → Type 0
-Recovers m σ (at_place p) τ =
+abbrev pub Recovers : UpperLag → Last → State → Event → State → Type 0
+Recovers upper m σ (at_place p) τ =
     (accepts p.reading ≡ true) × (Intact p → (one_or_three p.subframe ≡ true) ⊎ FollowsIntact m → p.reading ≡ values p.sent.lag)
-Recovers m σ (search_refused n d) τ = τ ≡ σ
-Recovers m σ made_fresh τ = τ ≡ fresh_state
-Recovers m σ (strayed n i r) τ = (accepts r ≡ false) × (τ ≡ σ)
+Recovers upper m σ (search_refused n d) τ = τ ≡ σ
+Recovers upper m σ made_fresh τ = τ ≡ fresh_state upper
+Recovers upper m σ (strayed n i r) τ = (accepts r ≡ false) × (τ ≡ σ)
 
 -- of every event of a run
 abbrev pub Each : (Last → State → Event → State → Type 0) → Last → List Step → Type 0
 Each P m [] = Unit {0}
 Each P m (s ∷ ss) = P m s.before s.event s.after × Each P (last_after m s.event) ss
 
--- the statement
+-- the statement, for a handset and for a player
 unfoldable pub Recovery : Type 0
 Recovery =
-    (es : List Entry) → Each WithinWidth none (run fresh_state es) → Each Stray none (run fresh_state es) → Each Recovers none (run fresh_state es)
+    (upper : UpperLag) (es : List Entry) →
+    Each WithinWidth none (run (fresh_state upper) es) →
+    Each Stray none (run (fresh_state upper) es) →
+    Each (Recovers upper) none (run (fresh_state upper) es)

@@ -1,5 +1,6 @@
 -- 02, request 08: where the start that the reader keeps is the searcher's. A statement beside demand 3's, on the same list, its run and its two hypotheses.
 use Rattle.std.specs.Prelude.{◌≡◌, List, ◌⊎◌}
+use Rattle.pitch.specs.declared.UpperLag.{UpperLag}
 use Rattle.recovery.specs.Runs.{Entry, Event, at_place, search_refused, made_fresh, strayed, State, fresh_state, run}
 use Rattle.recovery.specs.Statement.{Last, none, FollowsIntact, WithinWidth, Stray, Each}
 
@@ -10,7 +11,10 @@ SameStart m σ (search_refused n d) τ = Unit {0}
 SameStart m σ made_fresh τ = Unit {0}
 SameStart m σ (strayed n i r) τ = Unit {0}
 
--- the statement
+-- the statement, for a handset and for a player
 unfoldable pub WindowsAgree : Type 0
 WindowsAgree =
-    (es : List Entry) → Each WithinWidth none (run fresh_state es) → Each Stray none (run fresh_state es) → Each SameStart none (run fresh_state es)
+    (upper : UpperLag) (es : List Entry) →
+    Each WithinWidth none (run (fresh_state upper) es) →
+    Each Stray none (run (fresh_state upper) es) →
+    Each SameStart none (run (fresh_state upper) es)

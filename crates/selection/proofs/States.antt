@@ -1,4 +1,4 @@
--- A refusal leaves detector, searcher, reader and the lent words as they were, and a reset makes all three fresh: of every feed and at every place.
+-- A refusal leaves detector, searcher, reader and the lent words as they were, and a reset makes all three fresh, with the same upper lags: of every feed and at every place.
 use mathlib.Core.Path.{◌≡◌, refl, sym}
 use mathlib.Core.Bool.{false}
 use mathlib.Core.List.{List}
@@ -8,7 +8,7 @@ use Rattle.fixed.proofs.Clips.{contradiction}
 use Rattle.refusal.specs.Refused.{Told, values, refused, accepts}
 use Rattle.feed.specs.Records.{Standing, nothing, whole, header, body}
 use Rattle.selection_records.proofs.Keepings.{half_frame_keeps, pitch_keeps, filtering_keeps, lag_reading_keeps}
-use Rattle.selection.specs.Steps.{Selection, Step, fresh_selection, of_kind, of_standing, step_lent}
+use Rattle.selection.specs.Steps.{Selection, Step, reset_selection, of_kind, of_standing, step_lent}
 
 module _ (s : Selection) (ws : List ℤ) where
   -- 01, 'What is turned down': 'no list is written'; searcher and reader stay too
@@ -36,6 +36,6 @@ module _ (s : Selection) (ws : List ℤ) where
   refused_keeps feed at = standing_keeps (body feed at) (header feed at)
 
   -- a record of kind 0 makes all three fresh
-  pub reset_freshens : (feed : List ℕ) (at next : ℕ) → header feed at ≡ values (whole 0 next) → (step_lent s ws feed at).after ≡ fresh_selection
+  pub reset_freshens : (feed : List ℕ) (at next : ℕ) → header feed at ≡ values (whole 0 next) → (step_lent s ws feed at).after ≡ reset_selection s
   unfolding step_lent of_kind
   reset_freshens feed at next e = rw e

@@ -4,9 +4,9 @@ use Rattle.refusal.specs.declared.Step.{Step as Answered}
 use Rattle.refusal.specs.Refused.{Told, values, refused}
 use Rattle.refusal.specs.Checks.{Outcome}
 use Rattle.lag_reader.specs.declared.Reader.{Reader}
-use Rattle.lag_reader.specs.Readers.{fresh_reader}
+use Rattle.lag_reader.specs.Readers.{reset_reader}
 use Rattle.pitch_search.specs.declared.Search.{Search}
-use Rattle.pitch_search.specs.Searches.{fresh_search}
+use Rattle.pitch_search.specs.Searches.{reset_search}
 use Rattle.open_loop.specs.declared.Detector.{Detector}
 use Rattle.open_loop.specs.Detectors.{fresh_detector}
 use Rattle.feed.specs.Records.{Standing, nothing, whole, header, body}
@@ -39,9 +39,9 @@ told_lent r history ws = record { answer = told_answer r.answer ws; after = sele
 abbrev pub said : Selection → List ℤ → Told Line → Step
 said s ws a = record { answer = a; after = s; words = ws }
 
--- all three fresh
-unfoldable pub fresh_selection : Selection
-fresh_selection = record { detector = fresh_detector; searcher = fresh_search; reader = fresh_reader }
+-- all three fresh; searcher and reader keep their upper lags
+unfoldable pub reset_selection : Selection → Selection
+reset_selection s = record { detector = fresh_detector; searcher = reset_search s.searcher; reader = reset_reader s.reader }
 
 -- ---- the outcome of a record: its answer, and its state in place of the old one
 -- the detector's
@@ -62,7 +62,7 @@ of_words s o = said s o.after o.answer
 
 -- '0 reset of detector, searcher and reader'
 abbrev pub reset : Selection → List ℤ → Step
-reset s ws = said fresh_selection ws (values reset_line)
+reset s ws = said (reset_selection s) ws (values reset_line)
 
 -- by the kind, 0 to 6
 unfoldable pub of_kind : Selection → List ℤ → ℕ → List ℕ → Step

@@ -3,12 +3,13 @@
 
 ghost use Rattle.std.specs.Prelude.{◌≡◌};
 ghost use Rattle.feed.specs.Records.{kind_number};
-ghost use Rattle.lag_reader.specs.Readers.{fresh_reader};
-ghost use Rattle.pitch_search.specs.Searches.{fresh_search};
+ghost use Rattle.lag_reader.specs.Readers.{fresh_reader, reset_reader};
+ghost use Rattle.pitch_search.specs.Searches.{fresh_search, reset_search};
 ghost use Rattle.selection.specs.Steps.{selection_of, told_lent, of_kind, step_lent};
 
 use feed::Kind;
 use lag_reader::Reader;
+use pitch::UpperLag;
 use pitch_search::Search;
 use refusal::Step;
 use selection_answers::Answer;
@@ -21,12 +22,22 @@ pub struct ClosedLoop {
 }
 
 impl ClosedLoop {
-    pub fn fresh() -> Self
-        ensures { result ≡ record { searcher = fresh_search; reader = fresh_reader } }
+    pub fn fresh(upper: UpperLag) -> Self
+        ensures { result ≡ record { searcher = fresh_search upper; reader = fresh_reader upper } }
     {
         ClosedLoop {
-            searcher: Search::fresh(),
-            reader: Reader::fresh(),
+            searcher: Search::fresh(upper),
+            reader: Reader::fresh(upper),
+        }
+    }
+
+    // Each keeps its own upper lag.
+    pub fn reset(self) -> Self
+        ensures { result ≡ record { searcher = reset_search self.searcher; reader = reset_reader self.reader } }
+    {
+        ClosedLoop {
+            searcher: self.searcher.reset(),
+            reader: self.reader.reset(),
         }
     }
 }
@@ -59,7 +70,7 @@ pub fn step_lent(
 }
 
 // By the kind: a reset, a half frame and a filtering record write what is lent.
-#[tactic(auto, unfolding(crate::specs::Steps::of_kind, crate::specs::Steps::fresh_selection, open_loop::specs::Detectors::fresh_detector))]
+#[tactic(auto, unfolding(crate::specs::Steps::of_kind, crate::specs::Steps::reset_selection, open_loop::specs::Detectors::fresh_detector))]
 fn taken(
     ends: ClosedLoop,
     history_q0: &mut [i16; 143],
@@ -74,7 +85,7 @@ fn taken(
             *history_q0 = [0; 143];
             Step {
                 answer: Ok(Some(Answer::Reset)),
-                after: ClosedLoop::fresh(),
+                after: ends.reset(),
             }
         }
         Kind::HalfFrame => Step {

@@ -9,6 +9,7 @@ use lib.IntN.{pos}
 use lib.ListN.{length, get_or}
 use Rattle.refusal.specs.Refused.{refused}
 use Rattle.refusal.specs.Checks.{within}
+use Rattle.pitch.specs.Kinds.{upper_samples}
 use Rattle.pitch_search.specs.declared.Search.{Search}
 use Rattle.pitch_search.specs.Searches.{Pitch_fr}
 use Rattle.gain.specs.Rows.{quantize}
@@ -17,9 +18,10 @@ use Rattle.feed.proofs.Wordings.{words_length}
 use Rattle.selection_records.specs.Records.{pitch, gain}
 
 module _ (bs : List ℕ) where
-  -- both lags of a pitch record are checked, whichever its subframe uses
-  pub second_lag_checked : (s : Search) → length bs ≡ 551 → within 1 4 (get_or bs 0 0) ≡ true → within 20 143 (get_or bs 549 0) ≡ true →
-      within 20 143 (get_or bs 550 0) ≡ false → (pitch s bs).answer ≡ refused 3 (pos (get_or bs 550 0))
+  -- both lags of a pitch record are checked, whichever its subframe uses, against the searcher's upper lag
+  pub second_lag_checked : (s : Search) → length bs ≡ 551 → within 1 4 (get_or bs 0 0) ≡ true →
+      within 20 (upper_samples s.upper) (get_or bs 549 0) ≡ true → within 20 (upper_samples s.upper) (get_or bs 550 0) ≡ false →
+      (pitch s bs).answer ≡ refused 3 (pos (get_or bs 550 0))
   unfolding pitch Pitch_fr
   second_lag_checked s whole n first second =
       rw (

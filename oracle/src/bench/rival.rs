@@ -46,7 +46,7 @@ fn answer(mut line: impl FnMut(&mut Output, u8, &[u8]) -> io::Result<()>) -> io:
 /// Does what `select` does, with the stages of the published Rust. The lists that it allocates for
 /// a call cost less than a hundredth of its time.
 pub fn select() -> io::Result<()> {
-    let mut stages = Stages::fresh();
+    let mut stages = Stages::default();
     answer(|output, kind, body| print(output, &stages.step(kind, body)))
 }
 

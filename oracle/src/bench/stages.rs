@@ -7,7 +7,8 @@ use crate::{
     feed::{self, Record},
     filtering, gain,
     open_loop::HALF_FRAME,
-    pulses, search,
+    pulses,
+    search::{self, Searcher},
     selection::LagReader,
     words::{EXCITATION, SUBFRAME},
 };
@@ -142,7 +143,7 @@ struct Calls {
 impl Calls {
     fn of(records: &[Record]) -> Self {
         let mut calls = Self::default();
-        let mut searcher = pitch::search::Search::default();
+        let mut searcher = Searcher::default();
         let mut resets = [false; 3];
         for Record { kind, body } in records {
             let [half, pitch, reading] = &mut resets;
@@ -265,7 +266,7 @@ impl Calls {
             mr74::pitch::LagReader::default => {
                 reader.read(bindings::numbered(sent[0]), sent[1])
             },
-            LagReader::fresh => reader.read(sent[0], sent[1]),
+            LagReader::default => reader.read(sent[0], sent[1]),
         )
     }
 

@@ -157,7 +157,7 @@ pub fn push_answer(lines: &mut String, number: u64, answered: &Answered) {
 
 /// The answers to a whole feed, as far as it is read.
 pub fn answers(feed: &[u8]) -> Vec<Answered> {
-    let mut stages = Stages::fresh();
+    let mut stages = Stages::default();
     let mut answers = Vec::new();
     let mut rest = feed;
     while let Some(head) = first(rest) {

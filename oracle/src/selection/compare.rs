@@ -9,6 +9,7 @@ use crate::{
     compare::{Line, in_threads},
     counts::Cases,
     feed::{Record, sample_bytes},
+    upper::Upper,
 };
 use std::{
     env,
@@ -40,6 +41,9 @@ const FILLED_EACH: u64 = 4;
 
 /// The records that the library's step is compared on, at most.
 const STEP_RECORDS: u64 = 1_100_000;
+
+/// The records that it is compared on with players.
+const PLAYER_RECORDS: u64 = 750_000;
 
 /// What was compared, and which answers were met.
 struct Tally {
@@ -139,7 +143,19 @@ pub fn compare(records: u64, sample: &[Record]) -> Result<Vec<Line>, String> {
 fn compare_steps(records: u64, sample: &[Record]) -> Vec<Line> {
     let mut feeds = drawn(records.min(STEP_RECORDS));
     feeds.extend(truncated(1));
-    super::steps::compare(&feeds, sample)
+    super::steps::compare(&feeds, &[[Upper::Handset; 2]], sample)
+}
+
+/// Compares the library's step with a player's searcher or reader or both.
+pub fn compare_players() -> Vec<Line> {
+    const UPPERS: [[Upper; 2]; 3] = [
+        [Upper::Player, Upper::Player],
+        [Upper::Player, Upper::Handset],
+        [Upper::Handset, Upper::Player],
+    ];
+    let mut feeds = drawn(PLAYER_RECORDS);
+    feeds.extend(truncated(1));
+    super::steps::compare(&feeds, &UPPERS, &super::sample())
 }
 
 /// Feeds of all names but truncated ones, of so many records together.

@@ -50,7 +50,7 @@ pub fn mixed_of(random: &mut Random, stages: &Stages, kind: u8) -> Record {
             bytes(&chain.words(&stages.detector.history_q0))
         }
         2 => {
-            let mut body = bodies::pitch(&Chain::at(source, &[]).call(&stages.searcher.search));
+            let mut body = bodies::pitch(&Chain::at(source, &[]).call(&stages.searcher));
             add_pitch_faults(random, &mut body, faults);
             body
         }
@@ -143,6 +143,7 @@ fn at_times<const N: usize>(random: &mut Random, good: u8, others: [u8; N]) -> u
 
 /// A record of extreme words and of numbers at the ends.
 pub fn extreme_record(random: &mut Random, stages: &Stages) -> Record {
+    let upper = stages.searcher.upper.number();
     let kind = kind(random);
     let mut body = match kind {
         0 => Vec::new(),
@@ -151,7 +152,7 @@ pub fn extreme_record(random: &mut Random, stages: &Stages) -> Record {
             excitation: extreme::<EXCITATION>(random).to_vec(),
             target: extreme::<SUBFRAME>(random).to_vec(),
             impulse: extreme::<SUBFRAME>(random).to_vec(),
-            open_loop: [(); 2].map(|()| 20 + random.below(124) as u16),
+            open_loop: [(); 2].map(|()| 20 + random.below(u64::from(upper) - 19) as u16),
             subframe: number(stages.searcher.search.next),
         }),
         5 => [50, 11, 11, 10, 10]
@@ -174,7 +175,7 @@ pub fn extreme_record(random: &mut Random, stages: &Stages) -> Record {
             for place in places::PITCH_LAGS {
                 body[place] = match random.below(2) {
                     0 => at_times(random, 20, LAGS),
-                    _ => at_times(random, 143, LAGS),
+                    _ => at_times(random, upper, LAGS),
                 };
             }
         }

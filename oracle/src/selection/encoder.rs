@@ -132,10 +132,13 @@ impl<'a> Encoder<'a> {
         record
     }
 
-    /// Keeps what a later record is made of.
+    /// Keeps what a later record is made of. The lags are at most the searcher's upper one.
     fn take_in(&mut self, stages: &Stages, answer: &Answer) {
         match answer {
-            Answer::Open(lag) => self.open_loop = [self.open_loop[1], *lag],
+            Answer::Open(lag) => {
+                let upper = stages.searcher.upper.samples();
+                self.open_loop = [self.open_loop[1], (*lag).min(upper)];
+            }
             Answer::Filter(prepared) => {
                 self.excitation.copy_within(SUBFRAME.., 0);
                 self.excitation[HISTORY..].copy_from_slice(&prepared.residual_q0);

@@ -111,13 +111,14 @@ pub struct Making<'a> {
 }
 
 impl<'a> Making<'a> {
-    pub fn new(feed: Feed, sample: &'a [Record]) -> Self {
+    /// The feed for these stages, which are fresh.
+    pub fn new(feed: Feed, stages: Stages, sample: &'a [Record]) -> Self {
         let mut random = Random::at(feed.seed);
         Self {
             encoder: Encoder::new(&mut random, sample),
             feed,
             random,
-            stages: Stages::fresh(),
+            stages,
             last: None,
             done: 0,
             ended: false,
@@ -212,7 +213,7 @@ pub struct Parts<'a> {
 impl<'a> Parts<'a> {
     pub fn new(feed: Feed, sample: &'a [Record]) -> Self {
         Self {
-            making: Making::new(feed, sample),
+            making: Making::new(feed, Stages::default(), sample),
             number: 0,
             begun: false,
         }

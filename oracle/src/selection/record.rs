@@ -5,6 +5,7 @@ use super::{
     answers::{Case, answers, printed},
     bodies,
     feeds::{ENDS, Feed, Making, Name},
+    stages::Stages,
 };
 use crate::{
     calls,
@@ -122,7 +123,7 @@ fn length(feed: &[u8], records: usize) -> usize {
 }
 
 fn bytes(feed: Feed) -> Vec<u8> {
-    let mut making = Making::new(feed, &[]);
+    let mut making = Making::new(feed, Stages::default(), &[]);
     let mut bytes = Vec::new();
     while let Some(made) = making.next() {
         bytes.extend(made.bytes);

@@ -4,7 +4,7 @@
 use super::answers::{Answer, Answered};
 use crate::{
     calls,
-    codec::mr74::pitch::{Fraction, PitchLag, open_loop::Detector},
+    codec::mr74::pitch::{PitchLag, open_loop::Detector},
     feed::{BODIES, words},
     filtering,
     gain::{self, SignedRefusal},
@@ -13,6 +13,7 @@ use crate::{
     reader::{Reading, read},
     search::Searcher,
     subframes::{pitch_state, read_start},
+    upper::Upper,
 };
 
 /// What is kept from record to record.
@@ -23,28 +24,37 @@ pub struct Stages {
     pub reader: LagReader,
 }
 
-/// The lag that was read last, the subframe that is expected next, and the start that is kept.
+/// The upper lag, the lag that was read last, the subframe that is expected next, and the start that
+/// is kept.
 #[derive(Clone, Copy)]
 pub struct LagReader {
+    pub upper: Upper,
     pub previous: PitchLag,
     pub next: u8,
     pub start: u16,
 }
 
+impl Default for Stages {
+    fn default() -> Self {
+        Self::fresh([Upper::Handset; 2])
+    }
+}
+
 impl Stages {
-    pub fn fresh() -> Self {
+    /// With a searcher and a reader of these upper lags.
+    pub fn fresh([searcher, reader]: [Upper; 2]) -> Self {
         Self {
             detector: Detector::default(),
-            searcher: Searcher::default(),
-            reader: LagReader::fresh(),
+            searcher: Searcher::fresh(searcher),
+            reader: LagReader::fresh(reader),
         }
     }
 
-    /// The answer to a whole record. A refused one leaves all as it was.
+    /// The answer to a whole record. A refused one leaves all as it was, a reset the upper lags.
     pub fn step(&mut self, kind: u8, body: &[u8]) -> Answered {
         match kind {
             0 => {
-                *self = Self::fresh();
+                *self = Self::fresh([self.searcher.upper, self.reader.upper]);
                 Ok(Answer::Reset)
             }
             1 => {
@@ -63,24 +73,30 @@ impl Stages {
     }
 }
 
+impl Default for LagReader {
+    fn default() -> Self {
+        Self::fresh(Upper::Handset)
+    }
+}
+
 impl LagReader {
-    pub fn fresh() -> Self {
+    /// The lag is the fresh search's.
+    pub fn fresh(upper: Upper) -> Self {
         Self {
-            previous: PitchLag {
-                samples: 40,
-                fraction: Fraction::Zero,
-            },
+            upper,
+            previous: Searcher::fresh(upper).search.previous,
             next: 1,
             start: 0,
         }
     }
 
     pub fn state(&self) -> PitchState {
-        pitch_state(self.previous, self.next, self.start)
+        pitch_state(self.upper, self.previous, self.next, self.start)
     }
 
     pub fn read(&mut self, subframe: u8, index: u8) -> Result<PitchLag, SignedRefusal> {
         let lag = read(Reading {
+            upper: self.upper,
             previous: self.previous,
             expected: self.next,
             start: self.start,
@@ -91,6 +107,7 @@ impl LagReader {
             previous: lag,
             next: subframe % 4 + 1,
             start: read_start(subframe, lag, index),
+            ..*self
         };
         Ok(lag)
     }

@@ -14,8 +14,9 @@ use crate::{
     inputs::{Inputs, Random},
     lent::unwritten,
     open_loop::HISTORY,
-    project::{END, PitchState, StepAnswer, fresh_pitch, step, with_states},
-    states::{self, FRACTIONS, INDEXES, NUMBERS, SAMPLES, STARTS},
+    project::{END, PitchState, StepAnswer, step, with_states},
+    states::{self, FRACTIONS, INDEXES, NUMBERS, SAMPLES, STARTS, UPPERS},
+    upper::Upper,
     words::quiet,
 };
 
@@ -30,6 +31,7 @@ pub fn functions() -> [Function; 2] {
                 let mut lines =
                     compare_steps("rule of 01, every two expected numbers", every_number);
                 lines.push(answers_met());
+                lines.push(uppers_met());
                 lines
             },
         },
@@ -40,12 +42,13 @@ pub fn functions() -> [Function; 2] {
     ]
 }
 
-/// Every two expected numbers.
+/// Every two expected numbers, and some upper numbers.
 fn every_number(index: u64) -> [PitchState; 2] {
-    [index, index >> 8].map(|bits| PitchState {
+    [(index, index / 3), (index >> 8, index / 5)].map(|(bits, rest)| PitchState {
         samples: SAMPLES[(bits >> 3) as usize % SAMPLES.len()],
         fraction: FRACTIONS[(bits >> 5) as usize % FRACTIONS.len()],
         next: bits as u8,
+        upper: UPPERS[rest as usize % UPPERS.len()],
         start: STARTS[(bits + (bits >> 8)) as usize % STARTS.len()],
     })
 }
@@ -56,6 +59,7 @@ fn every_word(index: u64) -> [PitchState; 2] {
         samples: bits as u16,
         fraction: bits as i16,
         next: NUMBERS[(bits as u16 / 7) as usize % NUMBERS.len()],
+        upper: UPPERS[bits as usize % UPPERS.len()],
         start: (bits as u16).swap_bytes(),
     })
 }
@@ -128,6 +132,45 @@ fn answers_met() -> Line {
     states::numbers_met(&asked(&samples, every_number), met, &MET)
 }
 
+/// How often searchers and readers of these upper numbers are reset, and those that a record uses
+/// are accepted and refused.
+fn uppers_met() -> Line {
+    const MET: [(u8, &str); 10] = [
+        (1, "reset of a player's searcher and reader"),
+        (2, "reset of a player's searcher and a handset's reader"),
+        (3, "reset of a handset's searcher and a player's reader"),
+        (4, "reset of a handset's searcher and reader"),
+        (5, "reset of an upper number that is not 120 or 143"),
+        (6, "pitch of a player's searcher"),
+        (
+            7,
+            "pitch of a searcher's upper number that is not 120 or 143",
+        ),
+        (8, "player's searcher refused 3"),
+        (9, "lag of a player's reader"),
+        (10, "lag of a reader's upper number that is not 120 or 143"),
+    ];
+    let samples = samples();
+    let met = |(place, [searcher, reader]): Asked| {
+        let sample = &samples[place];
+        let number = sample.expected([searcher, reader]).answer.number;
+        match (sample.feed.first(), number, searcher.upper, reader.upper) {
+            (Some(&0), 0, 120, 120) => 1,
+            (Some(&0), 0, 120, 143) => 2,
+            (Some(&0), 0, 143, 120) => 3,
+            (Some(&0), 0, 143, 143) => 4,
+            (Some(&0), 0, ..) => 5,
+            (Some(&PITCH), 0, 120, _) => 6,
+            (Some(&PITCH), 0, 0..143, _) => 7,
+            (Some(&PITCH), 3, 120, _) => 8,
+            (Some(&LAG), 0, _, 120) => 9,
+            (Some(&LAG), 0, _, 0..143) => 10,
+            _ => 0,
+        }
+    };
+    states::numbers_met(&asked(&samples, every_number), met, &MET)
+}
+
 /// The detector's words before the step.
 fn old_words() -> [i16; HISTORY] {
     quiet(&mut Random::at(1), 2)
@@ -160,7 +203,7 @@ fn samples() -> Vec<Sample> {
         feeds.push(gain);
     }
     for subframe in NUMBERS {
-        for lag in [80, 19] {
+        for lag in [80, 19, 121] {
             let mut pitch = record(PITCH);
             pitch[1 + places::PITCH_SUBFRAME] = subframe;
             for place in places::PITCH_LAGS {
@@ -192,7 +235,7 @@ fn ours(sample: &Sample, [searcher, reader]: [PitchState; 2]) -> Stepped {
 
 impl Sample {
     fn new(feed: Vec<u8>) -> Self {
-        let mut stages = Stages::fresh();
+        let mut stages = Stages::default();
         stages.detector.history_q0 = old_words();
         let answered = match first(&feed) {
             None => None,
@@ -213,7 +256,7 @@ impl Sample {
         let expected = match (&self.answered, self.feed.first()) {
             (Some(answered), kind) => {
                 if kind == Some(&0) {
-                    (searcher, reader) = (fresh_pitch(), fresh_pitch());
+                    [searcher, reader] = given.map(|state| Upper::of(state.upper).fresh());
                 }
                 Expected::of(answered, &self.stages)
             }

@@ -13,7 +13,8 @@ use crate::{
     inputs::Random,
     lent::{Lent, unwritten},
     open_loop::HISTORY,
-    project::{END, PitchState, StepAnswer, fresh_pitch, states, step, with_states},
+    project::{END, PitchState, StepAnswer, states, step, with_states},
+    upper::Upper,
     words::SUBFRAME,
 };
 
@@ -36,9 +37,9 @@ pub struct Kept {
 }
 
 impl Kept {
-    fn fresh() -> Self {
+    fn fresh(uppers: [Upper; 2]) -> Self {
         Self {
-            states: [fresh_pitch(); 2],
+            states: uppers.map(Upper::fresh),
             history: vec![0; HISTORY],
         }
     }
@@ -54,6 +55,7 @@ impl Kept {
 /// The place of a step, as a report shows it.
 struct Place<'a> {
     feed: &'a Feed,
+    uppers: [Upper; 2],
     number: u64,
 }
 
@@ -84,21 +86,29 @@ impl Tally {
     }
 
     /// Compares the records of a feed one by one, then its end and steps that lend wrong lengths.
-    fn compare_feed(&mut self, index: u64, feed: &Feed, sample: &[Record]) {
+    fn compare_feed(&mut self, index: u64, feed: &Feed, uppers: [Upper; 2], sample: &[Record]) {
         let random = &mut Random::at(!feed.seed);
-        let mut making = Making::new(*feed, sample);
-        let mut kept = Kept::fresh();
+        let mut making = Making::new(*feed, Stages::fresh(uppers), sample);
+        let mut kept = Kept::fresh(uppers);
         let mut number = 0;
         while let Some(made) = making.next() {
             number += 1;
             self.cases.count(Case::of(made.answered));
-            let place = Place { feed, number };
+            let place = Place {
+                feed,
+                uppers,
+                number,
+            };
             let (bytes, at) = surrounded(random, made.bytes, made.answered);
             let expected = Expected::of(made.answered, made.stages);
             kept = self.compare(index, &place, (&bytes, at), kept, expected);
         }
         number += 1;
-        let place = Place { feed, number };
+        let place = Place {
+            feed,
+            uppers,
+            number,
+        };
         let bytes: Vec<u8> = (0..random.below(4)).map(|_| random.word() as u8).collect();
         let expected = Expected::at_end(&making.stages);
         self.ends += 1;
@@ -122,8 +132,12 @@ impl Tally {
         self.answers.compared += 1;
         let tell = |line: &mut Line, ours: String, expected: String| {
             line.tell_difference(index, || {
-                let Place { feed, number } = place;
-                format!("{feed} record {number}: library {ours}, expected {expected}")
+                let Place {
+                    feed,
+                    uppers,
+                    number,
+                } = place;
+                format!("{feed} {uppers:?} record {number}: library {ours}, expected {expected}")
             });
         };
         if with_states(ours, expected.kept.states) != expected.answer {
@@ -218,10 +232,12 @@ fn refused(number: u8, detail: i64) -> StepAnswer {
         searcher_samples: 0,
         searcher_fraction: 0,
         searcher_next: 0,
+        searcher_upper: 0,
         searcher_start: 0,
         reader_samples: 0,
         reader_fraction: 0,
         reader_next: 0,
+        reader_upper: 0,
         reader_start: 0,
     }
 }
@@ -270,12 +286,14 @@ impl Expected {
     }
 }
 
-/// Compares the step on these feeds.
-pub fn compare(feeds: &[Feed], sample: &[Record]) -> Vec<Line> {
+/// Compares the step on these feeds, each with searchers and readers of these upper lags in turn.
+pub fn compare(feeds: &[Feed], uppers: &[[Upper; 2]], sample: &[Record]) -> Vec<Line> {
     let mut tally = Tally::new();
     let parts = in_threads(feeds.len() as u64, Tally::new, |tally, indexes| {
         for index in indexes {
-            tally.compare_feed(index, &feeds[index as usize], sample);
+            let place = index as usize;
+            let uppers = uppers[place % uppers.len()];
+            tally.compare_feed(index, &feeds[place], uppers, sample);
         }
     });
     for part in parts {

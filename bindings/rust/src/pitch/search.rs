@@ -1,6 +1,6 @@
 //! The closed-loop search.
 
-use super::{PitchLag, kept, state};
+use super::{PitchLag, UpperLag};
 pub use crate::Refusal as SearchError;
 use crate::{SUBFRAME_SAMPLES, entries, refusal::sure};
 
@@ -36,7 +36,7 @@ impl Subframe {
     }
 }
 
-/// A lag of 20 to 143 samples.
+/// A lag of 20 to 143 samples. Above 120 a player's search refuses it.
 #[derive(Debug, Clone, Copy, PartialEq, Eq)]
 pub struct OpenLoopLag(pub(super) u16);
 
@@ -59,10 +59,12 @@ pub struct SearchedPitch {
     pub index: u8,
 }
 
+/// The default is a handset's.
 #[derive(Debug, Clone, PartialEq, Eq)]
 pub struct Search {
     pub previous: PitchLag,
     pub next: Subframe,
+    pub upper: UpperLag,
     /// The first whole lag of the window that was searched last; 0 when fresh. The whole lag that
     /// was found there lies between `start - 1` and `start + 10`. No search depends on it.
     pub start: u16,
@@ -70,22 +72,24 @@ pub struct Search {
 
 impl Default for Search {
     fn default() -> Self {
-        let (previous, next, start) = kept(entries::fresh_pitch());
-        Self {
-            previous,
-            next,
-            start,
-        }
+        Self::fresh(UpperLag::Handset)
     }
 }
 
 impl Search {
+    /// A fresh search of an announcement player.
+    pub fn player() -> Self {
+        Self::fresh(UpperLag::Player)
+    }
+
+    /// Keeps the upper lag.
     pub fn reset(&mut self) {
-        *self = Self::default();
+        *self = Self::fresh(self.upper);
     }
 
     /// TS 26.073 Pitch_fr for MR74. Input contains chronological excitation history followed by the
-    /// current LPC residual. Refuses by 4 a subframe that is not the one expected.
+    /// current LPC residual. A player's refuses by 3 the first open-loop lag above 120, whichever
+    /// subframe it is; then 4 refuses a subframe that is not the one expected.
     pub fn search(
         &mut self,
         excitation: &[i16; EXCITATION_SAMPLES],
@@ -96,7 +100,7 @@ impl Search {
     ) -> Result<SearchedPitch, SearchError> {
         let [first, second] = open_loop;
         let answer = entries::pitch_search(
-            state(self.previous, self.next, self.start),
+            self.state(),
             excitation,
             target,
             impulse_q12,
@@ -105,7 +109,7 @@ impl Search {
             subframe.number(),
         );
         SearchError::check(answer.number, answer.magnitude)?;
-        (self.previous, self.next, self.start) = kept(answer.state());
+        *self = Self::of(answer.state());
         Ok(SearchedPitch {
             lag: PitchLag::of(answer.samples, answer.fraction),
             index: answer.index,
