@@ -127,7 +127,7 @@ enum { MR74_PLAYER_LAG = 120, MR74_HANDSET_LAG = 143 };
 /*
  * A searcher or a lag reader. Calls take any numbers: no answer depends on the fraction or on the
  * start, and a `next` outside 1 to 4 is refused by 2, directly after the call's own subframe. A
- * refused call hands back the numbers that it was given, whatever they are.
+ * refused call, and a preview always, hands back the numbers that it was given, whatever they are.
  *
  * `upper` is the upper lag: MR74_PLAYER_LAG is an announcement player's, and every other number is
  * taken as a handset's. mr74_fresh_player and mr74_fresh_pitch set it. After an accepted search or
@@ -155,7 +155,7 @@ typedef struct {
 typedef struct {
     uint8_t number;
     uint64_t magnitude;
-    uint8_t index;    /* what is sent; 0 from the reader */
+    uint8_t index;    /* what is sent, or would be; 0 from the reader */
     uint16_t samples; /* the lag: whole samples and thirds */
     int16_t fraction;
     uint16_t previous_samples; /* the searcher or reader after the call */
@@ -181,6 +181,19 @@ mr74_pitch_answer mr74_pitch_search(mr74_pitch_state searcher,
                                     const int16_t *target_q0, size_t target_length,
                                     const int16_t *impulse_q12, size_t impulse_length,
                                     uint16_t first_lag, uint16_t second_lag, uint8_t subframe);
+
+/*
+ * A preview of that search: number, magnitude, index, samples and fraction are what
+ * mr74_pitch_search answers to the same arguments, so a search with them afterwards answers the
+ * same index. The state in the answer is always the one given: its `start` is that of the
+ * searcher's last window, not of the previewed one, and says nothing of the previewed lag.
+ * Refuses by 1, 2, 3 and 4 like the search.
+ */
+mr74_pitch_answer mr74_preview(mr74_pitch_state searcher,
+                               const int16_t *excitation_q0, size_t excitation_length,
+                               const int16_t *target_q0, size_t target_length,
+                               const int16_t *impulse_q12, size_t impulse_length,
+                               uint16_t first_lag, uint16_t second_lag, uint8_t subframe);
 
 /*
  * The lag that a sent index stands for. Refuses by 2, 4 and, in subframes 2 and 4, 5. In subframes

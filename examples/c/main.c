@@ -1,8 +1,9 @@
 /*
  * The stages of one subframe, called from C, on silence and on a voiced sound, and both readers on
- * what they send; a level meter of the gain row, on a sound that fits and on a loud one; and the
- * pitch of an announcement player beside that of a handset. Prints each answer, and behind a pitch
- * and a lag the start of its window.
+ * what they send; a tuning screen, which shows an index before it is sent; a level meter of the
+ * gain row, on a sound that fits and on a loud one; and the pitch of an announcement player beside
+ * that of a handset. Prints each answer, behind a pitch and a lag the start of its window, and
+ * behind a preview the searcher.
  */
 #include "mr74.h"
 
@@ -39,6 +40,28 @@ static uint16_t open_loop(state *kept, const int16_t samples[MR74_HALF_FRAME])
     }
     printf("open %u\n", open.lag);
     return open.lag;
+}
+
+/*
+ * For a tuning screen: the index and the lag that the subframe would get. The searcher is the one
+ * from before, and its start that of its last window.
+ */
+static void preview(state *kept, const int16_t excitation[MR74_EXCITATION],
+                    const int16_t target[MR74_SUBFRAME], const int16_t impulse[MR74_SUBFRAME],
+                    uint16_t lag, uint8_t subframe)
+{
+    mr74_pitch_answer shown =
+        mr74_preview(kept->searcher, excitation, MR74_EXCITATION, target, MR74_SUBFRAME, impulse,
+                     MR74_SUBFRAME, lag, lag, subframe);
+    printf("preview ");
+    if (shown.number != MR74_ACCEPTED)
+        refused(shown.number, false, shown.magnitude);
+    else
+        printf("%u %u %d\n", shown.index, shown.samples, shown.fraction);
+    /* Only to print it: the answer has the searcher as it was given. */
+    kept->searcher = mr74_pitch_after(&shown);
+    printf("searcher %u %d %u %u %u\n", kept->searcher.samples, kept->searcher.fraction,
+           kept->searcher.next, kept->searcher.upper, kept->searcher.start);
 }
 
 /* The pitch of a subframe, sent and read back, each with the start of its window. */
@@ -185,6 +208,7 @@ static void voiced(void)
     for (int i = 0; i < PAST; i++)
         excitation[i] = (PAST - i + 10) % PERIOD == 0 ? 8000 : 0;
     memcpy(excitation + PAST, residual, sizeof residual);
+    preview(&kept, excitation, target, impulse, lag, 1);
     mr74_pitch_answer found = pitch(&kept, excitation, target, impulse, lag, 1);
 
     /* The excitation one lag ago stands for the adaptive words. */
@@ -199,6 +223,11 @@ static void voiced(void)
     mr74_logarithm level = mr74_log2(8000);
     mr74_power_answer power = mr74_pow2(level.exponent, level.fraction_q15);
     printf("power %d\n", power.value);
+
+    /* Subframe 2 is expected: 1 is refused, and 2, on the same words, is shown and then sent. */
+    preview(&kept, excitation, target, impulse, lag, 1);
+    preview(&kept, excitation, target, impulse, lag, 2);
+    pitch(&kept, excitation, target, impulse, lag, 2);
 }
 
 /* The largest open-loop lag of a player in subframes 1 and 2, and one more in 3. */
@@ -209,7 +238,8 @@ static void upper_lag(mr74_pitch_state end)
     printf("%s\n", end.upper == MR74_PLAYER_LAG ? "player" : "handset");
     pitch(&kept, zeros, zeros, zeros, MR74_PLAYER_LAG, 1);
     pitch(&kept, zeros, zeros, zeros, MR74_PLAYER_LAG, 2);
-    /* A player's searcher refuses it, and stays as it is. */
+    /* A player's searcher refuses it, in a preview too, and stays as it is. */
+    preview(&kept, zeros, zeros, zeros, MR74_PLAYER_LAG + 1, 3);
     pitch(&kept, zeros, zeros, zeros, MR74_PLAYER_LAG + 1, 3);
 }
 

@@ -190,18 +190,36 @@ pub fn quantize(call: &gain::Call) -> Result<QuantizedRow, mr74::Refusal> {
     )
 }
 
-/// Of a call whose lists and subframe the types admit.
+/// A call whose lists and subframe the types admit.
 fn searched(search: &mut Search, call: &calls::Call) -> Result<SearchedPitch, mr74::Refusal> {
-    let lists = call.lists().expect("lists of the search's lengths");
-    let [first, second] = call.open_loop;
-    let open_loop = [OpenLoopLag::try_new(first)?, OpenLoopLag::try_new(second)?];
+    let lists = lists_of(call);
     search.search(
         lists.excitation,
         lists.target,
         lists.impulse,
-        open_loop,
+        open_loop_lags(call)?,
         numbered(call.subframe),
     )
+}
+
+fn previewed(search: &Search, call: &calls::Call) -> Result<SearchedPitch, mr74::Refusal> {
+    let lists = lists_of(call);
+    search.preview(
+        lists.excitation,
+        lists.target,
+        lists.impulse,
+        open_loop_lags(call)?,
+        numbered(call.subframe),
+    )
+}
+
+fn lists_of(call: &calls::Call) -> calls::Lists<'_> {
+    call.lists().expect("lists of the search's lengths")
+}
+
+fn open_loop_lags(call: &calls::Call) -> Result<[OpenLoopLag; 2], mr74::Refusal> {
+    let [first, second] = call.open_loop;
+    Ok([OpenLoopLag::try_new(first)?, OpenLoopLag::try_new(second)?])
 }
 
 pub fn numbered(subframe: u8) -> Subframe {
@@ -369,10 +387,16 @@ fn search_chain(upper: Upper, mut ours: Search, index: u64) -> Vec<Told> {
             Step::Search(call) if call.lists().is_err() || subframe(call.subframe).is_err() => {
                 continue;
             }
-            Step::Search(call) => [
-                told(searched(&mut ours, &call)),
-                told(published_searched(&mut other, &call)),
-            ],
+            Step::Search(call) => {
+                // A preview first, beside the search of a copy.
+                let shown_first = told(previewed(&ours, &call)) + &told(&ours);
+                let of_copy = told(published_searched(&mut other.clone(), &call));
+                steps.push([shown_first, of_copy + &shown(&other)]);
+                [
+                    told(searched(&mut ours, &call)),
+                    told(published_searched(&mut other, &call)),
+                ]
+            }
         };
         let [answer, expected] = answers;
         steps.push([answer + &told(&ours), expected + &shown(&other)]);

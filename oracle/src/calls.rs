@@ -18,7 +18,7 @@ pub enum Step {
 }
 
 /// One call of the search. The lists may have any length, the numbers any value.
-#[derive(Clone)]
+#[derive(Clone, PartialEq, Eq)]
 pub struct Call {
     pub excitation: Vec<i16>,
     pub target: Vec<i16>,

@@ -22,6 +22,7 @@ mod lists;
 mod open_loop;
 mod operators;
 mod player;
+mod previews;
 mod project;
 mod published;
 mod pulses;

@@ -95,24 +95,24 @@ unsafe extern "C" {
 
 // The lists of a call in groups, as the comparisons have them.
 
-pub fn pitch_search(
-    state: PitchState,
-    excitation: &[i16],
-    target: &[i16],
-    impulse_q12: &[i16],
-    [first, second]: [u16; 2],
-    subframe: u8,
-) -> PitchAnswer {
-    entries::pitch_search(
-        state,
-        excitation,
-        target,
-        impulse_q12,
-        first,
-        second,
-        subframe,
-    )
+/// The search or its preview.
+pub type Searching = fn(PitchState, &[i16], &[i16], &[i16], [u16; 2], u8) -> PitchAnswer;
+
+macro_rules! searchings {
+    ($($name:ident),+) => {$(
+        pub fn $name(
+            state: PitchState,
+            excitation: &[i16],
+            target: &[i16],
+            impulse_q12: &[i16],
+            [first, second]: [u16; 2],
+            subframe: u8,
+        ) -> PitchAnswer {
+            entries::$name(state, excitation, target, impulse_q12, first, second, subframe)
+        }
+    )+};
 }
+searchings!(pitch_search, preview);
 
 /// Reads the speech, the coefficients, the quantized ones, the error history and the weighting
 /// history, and writes the residual, the impulse response, the target and the error.

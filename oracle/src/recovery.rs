@@ -1,7 +1,7 @@
 //! Demand 3's list with the library's searcher and lag reader, a handset's and a player's: searches,
 //! whose indexes may be damaged on the way to the reader, resets and stray readings. Compared are
 //! the lags where demand 3 says that they are recovered, the starts that both keep, and whether each
-//! reading is refused.
+//! reading is refused. Previews anywhere between change none of it.
 
 use crate::{
     calls::{Call, Step},
@@ -9,8 +9,9 @@ use crate::{
     compare::{Function, Line, in_threads},
     counts::{Cases, cases},
     inputs::Random,
-    project::{PitchAnswer, PitchState, read_lag},
-    search::{self, Searcher},
+    previews::Others,
+    project::{PitchAnswer, PitchState, pitch_search, preview, read_lag},
+    search::{Searcher, called},
     upper::Upper,
 };
 use std::fmt;
@@ -32,6 +33,7 @@ cases! {
     Damaged => "after an intact index, the own one damaged",
     AfterSearch => "after an intact index, a refused search between",
     AfterStray => "after an intact index, a stray reading between",
+    AfterPreview => "after an intact index, a preview between",
     Unequal => "after a damaged index, starts that differ",
     Above120 => "damaged index of subframe 1 or 3 read as a lag of 121 to 143",
     AfterAbove120 => "reading of subframe 2 or 4 after such a lag",
@@ -80,13 +82,14 @@ struct Pair {
     last: Option<Last>,
 }
 
-/// The subframe of a place, whether its index was intact, and what was refused after it.
+/// The subframe of a place, whether its index was intact, and what was refused or previewed since.
 #[derive(Clone, Copy)]
 struct Last {
     subframe: u8,
     intact: bool,
     search_refused: bool,
     strayed: bool,
+    previewed: bool,
 }
 
 impl Case {
@@ -108,6 +111,13 @@ impl Pair {
     /// The subframe that is due.
     fn due(&self) -> u8 {
         self.last.map_or(1, |last| last.subframe % 4 + 1)
+    }
+
+    fn preview(&mut self, call: &Call) {
+        self.searcher = called(preview, self.searcher, call).state();
+        if let Some(last) = &mut self.last {
+            last.previewed = true;
+        }
     }
 }
 
@@ -139,6 +149,7 @@ impl Tally {
     fn compare_chain(&mut self, upper: Upper, index: u64) {
         let random = &mut Random::at(!index);
         let mut chain = Chain::at(index, &[]);
+        let mut others = Others::beside(index, CHAINS, &[]);
         let mut pair = Pair::fresh(upper);
         for number in 1.. {
             let searcher = Searcher::of(pair.searcher).expect("a subframe that is expected");
@@ -151,6 +162,9 @@ impl Tally {
             };
             if random.below(STRAY_OF) == 0 {
                 self.compare_stray(place, &mut pair, random);
+            }
+            for call in others.calls(&searcher, &step) {
+                pair.preview(&call);
             }
             match step {
                 Step::Reset => {
@@ -176,7 +190,7 @@ impl Tally {
     }
 
     fn compare_search(&mut self, place: Place, pair: &mut Pair, random: &mut Random, call: &Call) {
-        let sent = search::searched(pair.searcher, call);
+        let sent = called(pitch_search, pair.searcher, call);
         pair.searcher = sent.state();
         if sent.number != 0 {
             if let Some(last) = &mut pair.last {
@@ -210,6 +224,7 @@ impl Tally {
             intact,
             search_refused: false,
             strayed: false,
+            previewed: false,
         });
     }
 
@@ -260,6 +275,7 @@ impl Tally {
         for (case, met) in [
             (Case::AfterSearch, last.search_refused),
             (Case::AfterStray, last.strayed),
+            (Case::AfterPreview, last.previewed),
         ] {
             if met {
                 self.cases.count(case);

@@ -1,5 +1,5 @@
 //! The closed-loop search, a handset's and a player's: chains of calls, where each side goes on from
-//! its own state.
+//! its own state. Before each step the library makes previews, which the published Rust never sees.
 
 use crate::{
     calls::{Call, Lists, Step, step},
@@ -12,7 +12,8 @@ use crate::{
     compare::{Function, Line, in_threads},
     counts::Cases,
     feed,
-    project::{Answer, PitchAnswer, PitchState, pitch_search},
+    previews::{Others, Previews},
+    project::{Answer, PitchAnswer, PitchState, Searching, pitch_search},
     subframes::{Refusal, answer, number, pitch_state, searched_start, subframe},
     upper::Upper,
 };
@@ -105,6 +106,7 @@ struct Tally {
     /// What a player answers where the handset's copy must answer the same.
     unchanged: Line,
     cases: Cases<Case>,
+    previews: Previews,
 }
 
 impl Tally {
@@ -115,6 +117,7 @@ impl Tally {
             lags: Line::new("rule of 02, lag from start - 1 to start + 10"),
             unchanged: Line::new("unchanged pitch/search.rs, where 120 lowers no window"),
             cases: Cases::new(),
+            previews: Previews::new(),
         }
     }
 
@@ -124,6 +127,7 @@ impl Tally {
         self.lags.add(part.lags);
         self.unchanged.add(part.unchanged);
         self.cases.add(part.cases);
+        self.previews.add(part.previews);
     }
 
     /// Compares the answer and then the state after the step, which it gives. Where the states
@@ -144,7 +148,7 @@ impl Tally {
                 ours = searcher.upper.fresh();
             }
             Step::Search(call) => {
-                let library = searched(ours, call);
+                let library = called(pitch_search, ours, call);
                 if let Some(unchanged) = unchanged(searcher, call) {
                     self.compare_unchanged(place, &library, &unchanged);
                 }
@@ -213,17 +217,18 @@ pub fn compare_chains(upper: Upper) -> Vec<Line> {
         lines.push(tally.unchanged);
     }
     lines.push(cases);
+    lines.extend(tally.previews.lines(upper));
     lines
 }
 
 /// A step of a chain, as a report shows it.
-struct Place<'a> {
-    chain: u64,
-    number: usize,
+pub struct Place<'a> {
+    pub chain: u64,
+    pub number: usize,
     /// What an accepted search counts as.
     case: Case,
     before: PitchState,
-    step: &'a Step,
+    pub step: &'a Step,
 }
 
 impl fmt::Debug for Place<'_> {
@@ -239,6 +244,7 @@ impl fmt::Debug for Place<'_> {
 
 fn compare_chain(tally: &mut Tally, upper: Upper, index: u64, feed: &[Step]) {
     let mut chain = Chain::at(index, feed);
+    let mut others = Others::beside(index, CHAINS, feed);
     let mut searcher = Searcher::fresh(upper);
     let mut ours = upper.fresh();
     let mut number = 0;
@@ -251,12 +257,14 @@ fn compare_chain(tally: &mut Tally, upper: Upper, index: u64, feed: &[Step]) {
             before: searcher.state(),
             step: &step,
         };
+        ours = tally.previews.compare(&place, ours, &searcher, &mut others);
         ours = tally.compare_step(&place, ours, &mut searcher);
     }
 }
 
-pub fn searched(state: PitchState, call: &Call) -> PitchAnswer {
-    pitch_search(
+/// What the library's search, or its preview, answers to a call.
+pub fn called(searching: Searching, state: PitchState, call: &Call) -> PitchAnswer {
+    searching(
         state,
         &call.excitation,
         &call.target,
@@ -297,7 +305,7 @@ fn expected(
 }
 
 /// The answer in the form of the library's, and the searcher after it.
-fn answered(found: Result<SearchedPitch, Refusal>, after: &Searcher) -> PitchAnswer {
+pub fn answered(found: Result<SearchedPitch, Refusal>, after: &Searcher) -> PitchAnswer {
     answer(found.map(|found| (found.index, found.lag)), after.state())
 }
 

@@ -6,7 +6,7 @@ use crate::{
     codec::mr74::pitch::{PitchLag, search::SearchedPitch},
     compare::{Function, Line, compare, function},
     inputs::{Inputs, Random},
-    project::{PitchAnswer, PitchState, pitch_search, read_lag},
+    project::{PitchAnswer, PitchState, Searching, pitch_search, preview, read_lag},
     reader,
     search::{Searcher, previous},
     subframes::{Refusal, answer, subframe},
@@ -251,12 +251,19 @@ where
     F: Fn(u64) -> Option<Asked> + Sync,
 {
     let call = drawn();
-    compare(
+    let mut lines = compare(
         asked,
-        |asked: Asked| asked.ours(&call),
+        |asked: Asked| asked.ours(pitch_search, &call),
         [with],
         |asked: Asked| [asked.expected(&call)],
-    )
+    );
+    lines.extend(compare(
+        asked,
+        |asked: Asked| asked.ours(preview, &call),
+        ["the same searches, previews"],
+        |asked: Asked| [asked.expected_preview(&call)],
+    ));
+    lines
 }
 
 fn compare_searches() -> Vec<Line> {
@@ -279,7 +286,33 @@ fn compare_searches() -> Vec<Line> {
     lines.push(uppers_met(&asked, |asked: Asked| {
         (asked.state, asked.expected(&call))
     }));
+    lines.push(previews_met(&asked));
     lines
+}
+
+/// What previews must meet: numbers that no call hands out, and that they hand back.
+fn previews_met<F>(asked: &Inputs<F>) -> Line
+where
+    F: Fn(u64) -> Option<Asked>,
+{
+    const MET: [(u8, &str); 4] = [
+        (1, "accepted preview that keeps another start"),
+        (2, "accepted preview that keeps another fraction"),
+        (3, "accepted preview that keeps another upper number"),
+        (4, "preview refused 2 that keeps another expected number"),
+    ];
+    let call = drawn();
+    let met = |asked: Asked| {
+        let state = asked.state;
+        match asked.expected_preview(&call).number {
+            0 if !matches!(state.start, 0 | 20..=137) => 1,
+            0 if !(-1..=1).contains(&state.fraction) => 2,
+            0 if ![120, 143].contains(&state.upper) => 3,
+            2 if subframe(asked.subframe).is_ok() => 4,
+            _ => 0,
+        }
+    };
+    numbers_met(asked, met, &MET)
 }
 
 /// Lists that a search accepts.
@@ -297,7 +330,7 @@ fn drawn() -> Call {
 }
 
 impl Asked {
-    fn ours(&self, call: &Call) -> PitchAnswer {
+    fn ours(&self, searching: Searching, call: &Call) -> PitchAnswer {
         let lists = [&call.excitation, &call.target, &call.impulse];
         let mut place = 0;
         let [excitation, target, impulse] = lists.map(|list| {
@@ -305,26 +338,30 @@ impl Asked {
             place += 1;
             &list[usize::from(short)..]
         });
-        pitch_search(
-            self.state,
-            excitation,
-            target,
-            impulse,
-            self.lags,
-            self.subframe,
-        )
+        let Self { state, lags, .. } = *self;
+        searching(state, excitation, target, impulse, lags, self.subframe)
     }
 
     fn expected(&self, call: &Call) -> PitchAnswer {
-        let found = match self.short {
+        let found = self.found(call);
+        let after = found.map_or(self.state, |(_, after)| after);
+        answer(found.map(|(found, _)| (found.index, found.lag)), after)
+    }
+
+    /// The search's answer, and the state as it was given.
+    fn expected_preview(&self, call: &Call) -> PitchAnswer {
+        let found = self.found(call);
+        answer(found.map(|(found, _)| (found.index, found.lag)), self.state)
+    }
+
+    fn found(&self, call: &Call) -> Result<(SearchedPitch, PitchState), Refusal> {
+        match self.short {
             Some(place) => Err(Refusal {
                 number: 1,
                 detail: [EXCITATION, SUBFRAME, SUBFRAME][place] as u64 - 1,
             }),
             None => searched(self.state, call, self.lags, self.subframe),
-        };
-        let after = found.map_or(self.state, |(_, after)| after);
-        answer(found.map(|(found, _)| (found.index, found.lag)), after)
+        }
     }
 }
 

@@ -1,6 +1,7 @@
 //! The stages of one subframe, on silence and on a voiced sound, and both readers on what they
-//! send; a level meter of the gain row, on a sound that fits and on a loud one; and the pitch of an
-//! announcement player beside that of a handset: the same lines as examples/c/main.c prints.
+//! send; a tuning screen, which shows an index before it is sent; a level meter of the gain row, on
+//! a sound that fits and on a loud one; and the pitch of an announcement player beside that of a
+//! handset: the same lines as examples/c/main.c prints.
 
 use mr74::{
     Refusal, SUBFRAME_SAMPLES,
@@ -15,7 +16,7 @@ use mr74::{
     pitch::{
         LagReader, PitchLag, UpperLag,
         open_loop::Detector,
-        search::{EXCITATION_SAMPLES, OpenLoopLag, Search, Subframe, convolve},
+        search::{EXCITATION_SAMPLES, OpenLoopLag, Search, SearchedPitch, Subframe, convolve},
     },
 };
 
@@ -47,6 +48,37 @@ impl State {
         let lag = self.detector.push(samples);
         println!("open {}", lag.samples());
         lag
+    }
+
+    /// For a tuning screen: the index and the lag that the subframe would get. The searcher stays
+    /// as it is, and its start is that of its last window.
+    fn preview(
+        &self,
+        excitation: &[i16; EXCITATION_SAMPLES],
+        target: &Words,
+        impulse: &Words,
+        lag: OpenLoopLag,
+        subframe: Subframe,
+    ) {
+        let open_loop = [lag; 2];
+        match self
+            .searcher
+            .preview(excitation, target, impulse, open_loop, subframe)
+        {
+            Ok(SearchedPitch { lag, index }) => {
+                let thirds = lag.fraction().thirds();
+                println!("preview {index} {} {thirds}", lag.samples());
+            }
+            Err(Refusal { number, detail }) => println!("preview refused {number} {detail}"),
+        }
+        println!(
+            "searcher {} {} {} {} {}",
+            self.searcher.previous.samples(),
+            self.searcher.previous.fraction().thirds(),
+            self.searcher.next.number(),
+            self.searcher.upper.samples(),
+            self.searcher.start
+        );
     }
 
     /// The pitch of a subframe, sent and read back, each with the start of its window.
@@ -171,6 +203,7 @@ fn voiced() -> Result<(), Refusal> {
         Some(i) => residual[i],
         None => pulse((PAST - i + 10).is_multiple_of(PERIOD)),
     });
+    state.preview(&excitation, &target, &impulse, lag, Subframe::One);
     let found = state.pitch(&excitation, &target, &impulse, lag, Subframe::One)?;
 
     // The excitation one lag ago stands for the adaptive words.
@@ -187,6 +220,11 @@ fn voiced() -> Result<(), Refusal> {
     gain_row(&target, &adaptive, &filtered, prediction, limit)?;
     let level = log2(8000);
     println!("power {}", pow2(level.exponent, level.fraction_q15)?);
+
+    // Subframe two is expected: one is refused, and two, on the same words, is shown and then sent.
+    state.preview(&excitation, &target, &impulse, lag, Subframe::One);
+    state.preview(&excitation, &target, &impulse, lag, Subframe::Two);
+    state.pitch(&excitation, &target, &impulse, lag, Subframe::Two)?;
     Ok(())
 }
 
@@ -238,7 +276,10 @@ fn upper_lag(mut state: State) -> Result<(), Refusal> {
         (largest + 1, Subframe::Three),
     ] {
         let lag = OpenLoopLag::try_new(lag)?;
-        // A player's searcher refuses the last, and stays as it is.
+        if subframe == Subframe::Three {
+            state.preview(&excitation, &zeros, &zeros, lag, subframe);
+        }
+        // A player's searcher refuses the last, in a preview too, and stays as it is.
         match state.pitch(&excitation, &zeros, &zeros, lag, subframe) {
             Ok(_) => {}
             Err(Refusal { number, detail }) => println!("refused {number} {detail}"),

@@ -23,8 +23,8 @@ answers! {
     /// A searcher or a lag reader: the lag before, its thirds, the subframe expected next, the upper
     /// lag, and the start of the last window. No answer depends on the thirds or on the start. An
     /// `upper` of 120 is an announcement player's, and every other is taken as a handset's. A
-    /// `next` outside 1 to 4 is refused by 2, after the call's own subframe, and a refusal hands
-    /// back the numbers that were given, whatever they are.
+    /// `next` outside 1 to 4 is refused by 2, after the call's own subframe. A refusal, and a
+    /// preview always, hands back the numbers that were given, whatever they are.
     PitchState { samples: u16, fraction: i16, next: u8, upper: u8, start: u16, }
     /// The index and the lag, then the searcher or reader after the call.
     PitchAnswer {
@@ -220,6 +220,18 @@ entries! {
     fn fresh_player as mr74_fresh_player() -> PitchState;
 
     fn pitch_search as mr74_pitch_search(
+        searcher: PitchState,
+        excitation: &[i16],
+        target: &[i16],
+        impulse_q12: &[i16],
+        first: u16,
+        second: u16,
+        subframe: u8
+    ) -> PitchAnswer;
+
+    /// Answers as `pitch_search` does, but for the state, which is the one that was given: `start`
+    /// is that of the searcher's last window, not of the previewed one.
+    fn preview as mr74_preview(
         searcher: PitchState,
         excitation: &[i16],
         target: &[i16],

@@ -1,16 +1,16 @@
 //! The start of the last window, and the upper lag, which searcher and reader keep.
 
+mod inputs;
+
+use inputs::{Drawn, SILENCE, SILENT_EXCITATION, on_silence};
 use mr74::{
-    Refusal, SUBFRAME_SAMPLES,
+    Refusal,
     entries::{self, PitchAnswer, PitchState},
     pitch::{
         LagReader, PitchLag, UpperLag,
-        search::{EXCITATION_SAMPLES, OpenLoopLag, Search, SearchedPitch, Subframe},
+        search::{OpenLoopLag, Search, SearchedPitch, Subframe},
     },
 };
-
-const SILENCE: [i16; SUBFRAME_SAMPLES] = [0; SUBFRAME_SAMPLES];
-const SILENT_EXCITATION: [i16; EXCITATION_SAMPLES] = [0; EXCITATION_SAMPLES];
 
 fn open_loop(lags: [u16; 2]) -> [OpenLoopLag; 2] {
     lags.map(|lag| OpenLoopLag::try_new(lag).expect("a lag"))
@@ -23,16 +23,7 @@ fn silent(searcher: &mut Search, subframe: Subframe) -> Result<SearchedPitch, Re
 }
 
 fn silent_answer(searcher: PitchState, lags: [u16; 2], subframe: u8) -> PitchAnswer {
-    let [first, second] = lags;
-    entries::pitch_search(
-        searcher,
-        &SILENT_EXCITATION,
-        &SILENCE,
-        &SILENCE,
-        first,
-        second,
-        subframe,
-    )
+    on_silence(entries::pitch_search, searcher, lags, subframe)
 }
 
 fn state(samples: u16, next: u8, start: u16) -> PitchState {
@@ -387,20 +378,6 @@ fn a_start_that_is_handed_in_changes_no_answer() {
         assert_eq!((read.number, read.samples, read.start), (0, 19, 0));
         let read = entries::read_lag(relative, 2, 0);
         assert_eq!((read.number, read.samples, read.start), (0, 76, 77));
-    }
-}
-
-/// Pseudo-random numbers, the same in every run.
-struct Drawn(u32);
-
-impl Drawn {
-    fn below(&mut self, end: u32) -> u32 {
-        self.0 = self.0.wrapping_mul(1664525).wrapping_add(1013904223);
-        (self.0 >> 16) % end
-    }
-
-    fn words<const N: usize>(&mut self) -> [i16; N] {
-        std::array::from_fn(|_| self.below(8001) as i16 - 4000)
     }
 }
 

@@ -4,7 +4,7 @@ ghost use Rattle.refusal.specs.Refused.{told};
 ghost use Rattle.pitch.specs.declared.UpperLag.TheVariants.{Player, Handset};
 ghost use Rattle.pitch_convolution.specs.Filters.{convolve};
 ghost use Rattle.pitch_state.specs.States.{fresh_state};
-ghost use Rattle.pitch_state.specs.Calls.{search_in_numbers, read_in_numbers};
+ghost use Rattle.pitch_state.specs.Calls.{search_in_numbers, preview_in_numbers, read_in_numbers};
 ghost use Rattle.mr74.specs.Lengths.{length_answer};
 ghost use Rattle.mr74.specs.Pitches.{told_pitch, pitch_answer, reading_answer};
 
@@ -59,6 +59,31 @@ pub extern "C" fn mr74_pitch_search(
     ensures { result ≡ pitch_answer (search_in_numbers state excitation.now target.now impulse_q12.now first second subframe) }
 {
     let step = pitch_state::search(
+        state,
+        excitation,
+        target,
+        impulse_q12,
+        first,
+        second,
+        subframe,
+    );
+    pitch_answer(step.answer, step.after)
+}
+
+#[tactic(auto, unfolding(crate::specs::Pitches::pitch_answer, pitch_state::specs::Calls::preview_in_numbers))]
+#[unsafe(no_mangle)]
+pub extern "C" fn mr74_preview(
+    state: PitchState,
+    excitation: &[i16],
+    target: &[i16],
+    impulse_q12: &[i16],
+    first: u16,
+    second: u16,
+    subframe: u8,
+) -> PitchAnswer
+    ensures { result ≡ pitch_answer (preview_in_numbers state excitation.now target.now impulse_q12.now first second subframe) }
+{
+    let step = pitch_state::preview(
         state,
         excitation,
         target,

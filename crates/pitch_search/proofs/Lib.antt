@@ -1,3 +1,4 @@
 -- The laws that belong to no one function.
 pub mod Outcomes
 pub mod Starts
+pub mod Shown

@@ -5,6 +5,7 @@ ghost use Rattle.std.specs.Prelude.{◌≡◌, IfOk};
 ghost use Rattle.refusal.specs.Refused.{values, refused, told, put};
 ghost use Rattle.refusal.specs.Checks.{checked, told_step};
 ghost use Rattle.pitch_search.specs.Searches.{fresh_search, reset_search, accepted, search_checks, Pitch_fr};
+ghost use Rattle.pitch_search.specs.Previews.{preview_of};
 
 use pitch::{OpenLoopLag, PitchLag, Subframe, UpperLag};
 use refusal::{Refusal, Step};
@@ -69,6 +70,26 @@ impl Search {
         match self.checked(excitation, target, impulse_q12, first, second, subframe) {
             Ok(asked) => self.accepted(asked),
             Err(refusal) => Step::refused(refusal, self),
+        }
+    }
+
+    // What a search with these inputs would answer; the searcher is handed back as it was.
+    #[tactic(auto, unfolding(crate::specs::Previews::preview_of, crate::specs::Searches::Pitch_fr))]
+    pub fn preview(
+        self,
+        excitation: &[i16],
+        target: &[i16],
+        impulse_q12: &[i16],
+        first: u16,
+        second: u16,
+        subframe: u8,
+    ) -> Step<SearchedPitch, Self>
+        ensures { told_step result ≡ preview_of self excitation.now target.now impulse_q12.now first second subframe }
+    {
+        let step = self.search(excitation, target, impulse_q12, first, second, subframe);
+        Step {
+            answer: step.answer,
+            after: self,
         }
     }
 

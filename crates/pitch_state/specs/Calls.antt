@@ -6,6 +6,7 @@ use Rattle.pitch.specs.declared.PitchLag.{PitchLag}
 use Rattle.lag_reader.specs.Readers.{read}
 use Rattle.pitch_search.specs.declared.SearchedPitch.{SearchedPitch}
 use Rattle.pitch_search.specs.Searches.{Pitch_fr}
+use Rattle.pitch_search.specs.Previews.{on_a_copy}
 use Rattle.pitch_state.specs.declared.PitchState.{PitchState}
 use Rattle.pitch_state.specs.States.{searcher_numbers, reader_numbers, searcher_of, reader_of}
 
@@ -26,6 +27,10 @@ unfoldable pub search_in_numbers : PitchState → List ℤ → List ℤ → List
 search_in_numbers s exc target hs first second n =
     unless_refused (call_checks s exc target hs n) s
     (keeping s searcher_numbers (Pitch_fr (searcher_of s) exc target hs first second n))
+
+-- `Search::preview`: the numbers that were given, whatever they are
+unfoldable pub preview_in_numbers : PitchState → List ℤ → List ℤ → List ℤ → ℕ → ℕ → ℕ → Outcome SearchedPitch PitchState
+preview_in_numbers s exc target hs first second n = on_a_copy s (search_in_numbers s exc target hs first second n)
 
 -- `Reader::read`
 unfoldable pub read_in_numbers : PitchState → ℕ → ℕ → Outcome PitchLag PitchState

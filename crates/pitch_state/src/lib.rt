@@ -5,7 +5,7 @@ ghost use Rattle.std.specs.Prelude.{cond, ◌≡◌};
 ghost use Rattle.refusal.specs.Refused.{values, refused, accepts, told};
 ghost use Rattle.refusal.specs.Checks.{checked, told_step};
 ghost use Rattle.pitch_state.specs.States.{in_numbers, searcher_numbers, reader_numbers, searcher_of, reader_of, previous_of, subframe_of, upper_of, fresh_state};
-ghost use Rattle.pitch_state.specs.Calls.{known_subframes, call_checks, search_in_numbers, read_in_numbers};
+ghost use Rattle.pitch_state.specs.Calls.{known_subframes, call_checks, search_in_numbers, preview_in_numbers, read_in_numbers};
 
 use lag_reader::Reader;
 use pitch::{Fraction, PitchLag, Subframe, UpperLag};
@@ -161,6 +161,34 @@ pub fn search(
             kept(state, step.answer, PitchState::from(step.after))
         }
         Err(refusal) => Step::refused(refusal, state),
+    }
+}
+
+// What `search` would answer; the state is handed back as it was given.
+#[tactic(auto, unfolding(crate::specs::Calls::preview_in_numbers, crate::specs::Calls::search_in_numbers))]
+pub fn preview(
+    state: PitchState,
+    excitation: &[i16],
+    target: &[i16],
+    impulse_q12: &[i16],
+    first: u16,
+    second: u16,
+    subframe: u8,
+) -> Step<SearchedPitch, PitchState>
+    ensures { told_step result ≡ preview_in_numbers state excitation.now target.now impulse_q12.now first second subframe }
+{
+    let step = search(
+        state,
+        excitation,
+        target,
+        impulse_q12,
+        first,
+        second,
+        subframe,
+    );
+    Step {
+        answer: step.answer,
+        after: state,
     }
 }
 

@@ -1,3 +1,4 @@
 -- The proof of the statement, and the example computed.
 pub mod Recovered
 pub mod Exemplified
+pub mod Previewed

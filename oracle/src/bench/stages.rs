@@ -3,10 +3,17 @@
 use super::{Feed, Row, best};
 use crate::{
     bindings, calls,
-    codec::mr74::{codebook::Codebook, pitch},
+    codec::mr74::{
+        codebook::Codebook,
+        pitch::{
+            self,
+            search::{SearchError, SearchedPitch},
+        },
+    },
     feed::{self, Record},
     filtering, gain,
     open_loop::HALF_FRAME,
+    project::{PitchAnswer, preview},
     pulses,
     search::{self, Searcher},
     selection::LagReader,
@@ -22,9 +29,10 @@ const ROUND: f64 = 0.001;
 type Ratio = fn(&Calls) -> f64;
 
 pub fn rows(feeds: &[Feed]) -> Vec<Row> {
-    let stages: [(&str, Ratio); 8] = [
+    let stages: [(&str, Ratio); 9] = [
         ("open loop", Calls::open_loop),
         ("pitch", Calls::pitch),
+        ("preview", Calls::preview),
         ("pulses", Calls::pulses),
         ("gain", Calls::gain),
         ("filtering", Calls::filtering),
@@ -126,6 +134,32 @@ struct Pitch {
     other: [pitch::search::OpenLoopLag; 2],
     subframe: mr74::pitch::search::Subframe,
     published: pitch::search::Subframe,
+    /// The searcher that the search meets.
+    before: Searcher,
+}
+
+impl Pitch {
+    fn previewed(&self) -> PitchAnswer {
+        preview(
+            self.before.state(),
+            &self.excitation,
+            &self.target,
+            &self.impulse,
+            self.ours.map(|lag| lag.samples()),
+            self.subframe.number(),
+        )
+    }
+
+    /// The Rust has no preview: this is what takes its place.
+    fn searched_on_a_copy(&self) -> Result<SearchedPitch, SearchError> {
+        self.before.search.clone().search(
+            &self.excitation,
+            &self.target,
+            &self.impulse,
+            self.other,
+            self.published,
+        )
+    }
 }
 
 /// The calls of a feed's records that are accepted, of readings all.
@@ -170,6 +204,7 @@ impl Calls {
                                 other: found.open_loop,
                                 subframe: bindings::numbered(call.subframe),
                                 published: found.subframe,
+                                before: before.clone(),
                             },
                         });
                     }
@@ -208,6 +243,15 @@ impl Calls {
             pitch::search::Search::default => searcher.search(
                 &call.excitation, &call.target, &call.impulse, call.other, call.published,
             ),
+        )
+    }
+
+    /// Each of a pitch record on the searcher that the record meets.
+    fn preview(&self) -> f64 {
+        plain!(
+            &self.pitches,
+            |kept| kept.call.previewed(),
+            kept.call.searched_on_a_copy(),
         )
     }
 

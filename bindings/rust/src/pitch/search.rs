@@ -2,7 +2,11 @@
 
 use super::{PitchLag, UpperLag};
 pub use crate::Refusal as SearchError;
-use crate::{SUBFRAME_SAMPLES, entries, refusal::sure};
+use crate::{
+    SUBFRAME_SAMPLES,
+    entries::{self, PitchAnswer, PitchState},
+    refusal::sure,
+};
 
 const HISTORY_SAMPLES: usize = 154;
 pub const EXCITATION_SAMPLES: usize = HISTORY_SAMPLES + SUBFRAME_SAMPLES;
@@ -76,6 +80,9 @@ impl Default for Search {
     }
 }
 
+/// `entries::pitch_search` or `entries::preview`.
+type Entry = fn(PitchState, &[i16], &[i16], &[i16], u16, u16, u8) -> PitchAnswer;
+
 impl Search {
     /// A fresh search of an announcement player.
     pub fn player() -> Self {
@@ -98,8 +105,41 @@ impl Search {
         open_loop: [OpenLoopLag; 2],
         subframe: Subframe,
     ) -> Result<SearchedPitch, SearchError> {
+        let entry = entries::pitch_search;
+        let (found, after) =
+            self.answered(entry, excitation, target, impulse_q12, open_loop, subframe)?;
+        *self = after;
+        Ok(found)
+    }
+
+    /// What `search` with the same arguments would answer, refusals too. The search stays as it is,
+    /// so its `start` is that of its last window, not of the previewed one.
+    pub fn preview(
+        &self,
+        excitation: &[i16; EXCITATION_SAMPLES],
+        target: &[i16; SUBFRAME_SAMPLES],
+        impulse_q12: &[i16; SUBFRAME_SAMPLES],
+        open_loop: [OpenLoopLag; 2],
+        subframe: Subframe,
+    ) -> Result<SearchedPitch, SearchError> {
+        let entry = entries::preview;
+        let (shown, _) =
+            self.answered(entry, excitation, target, impulse_q12, open_loop, subframe)?;
+        Ok(shown)
+    }
+
+    /// What an entry answers, and the search after it.
+    fn answered(
+        &self,
+        entry: Entry,
+        excitation: &[i16; EXCITATION_SAMPLES],
+        target: &[i16; SUBFRAME_SAMPLES],
+        impulse_q12: &[i16; SUBFRAME_SAMPLES],
+        open_loop: [OpenLoopLag; 2],
+        subframe: Subframe,
+    ) -> Result<(SearchedPitch, Self), SearchError> {
         let [first, second] = open_loop;
-        let answer = entries::pitch_search(
+        let answer = entry(
             self.state(),
             excitation,
             target,
@@ -109,11 +149,11 @@ impl Search {
             subframe.number(),
         );
         SearchError::check(answer.number, answer.magnitude)?;
-        *self = Self::of(answer.state());
-        Ok(SearchedPitch {
+        let pitch = SearchedPitch {
             lag: PitchLag::of(answer.samples, answer.fraction),
             index: answer.index,
-        })
+        };
+        Ok((pitch, Self::of(answer.state())))
     }
 }
 
