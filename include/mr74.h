@@ -20,7 +20,8 @@
  *           1 to 4, or a limit is not 0 or 1                                  that number
  *        3  an open-loop lag is outside 20 to 143, or above 120 for a
  *           player's searcher                                                 the first such lag
- *        4  the subframe is not the one expected next                         the expected one
+ *        4  the subframe, of a whole frame its first, is not the one
+ *           expected next                                                     the expected one
  *        5  a relative pitch index is above 31                                the index
  *        6  the pulse stage's lag is outside 19 to 144                        the lag
  *        7  the exponent of a power is above 30, or a predicted exponent is
@@ -31,8 +32,8 @@
  *       14  a fraction is above 32767, and its exponent is good               the fraction
  *
  * Where several things are wrong, the first in the order that each function names is given. Lengths
- * are checked in the order of the arguments, a call's subframe before the one that its searcher or
- * reader expects.
+ * are checked in the order of the arguments, those of a struct in the order of its fields, a call's
+ * subframe before the one that its searcher or reader expects.
  *
  * q0, q10, q12, q13, q14 and q15 in a name say how many of the word's bits are fraction bits.
  */
@@ -50,6 +51,7 @@ extern "C" {
 /* Lengths of lists, in words. */
 #define MR74_SUBFRAME 40
 #define MR74_HALF_FRAME 80
+#define MR74_FRAME 160        /* two half frames, or four subframes */
 #define MR74_HISTORY 143      /* what a detector keeps */
 #define MR74_EXCITATION 194   /* 154 words of the past, then the subframe's residual */
 #define MR74_COEFFICIENTS 11  /* of a filter; the first stands for 1 and is 4096 */
@@ -126,8 +128,9 @@ enum { MR74_PLAYER_LAG = 120, MR74_HANDSET_LAG = 143 };
 
 /*
  * A searcher or a lag reader. Calls take any numbers: no answer depends on the fraction or on the
- * start, and a `next` outside 1 to 4 is refused by 2, directly after the call's own subframe. A
- * refused call, and a preview always, hands back the numbers that it was given, whatever they are.
+ * start, and a `next` outside 1 to 4 is refused by 2, directly after the call's own subframe (a
+ * whole frame is given none). A refused call, and a preview always, hands back the numbers that it
+ * was given, whatever they are.
  *
  * `upper` is the upper lag: MR74_PLAYER_LAG is an announcement player's, and every other number is
  * taken as a handset's. mr74_fresh_player and mr74_fresh_pitch set it. After an accepted search or
@@ -214,6 +217,54 @@ static inline mr74_pitch_state mr74_pitch_after(const mr74_pitch_answer *answer)
 mr74_length_answer mr74_convolve(const int16_t *input_q0, size_t input_length,
                                  const int16_t *impulse_q12, size_t impulse_length,
                                  int16_t *output_q0, size_t output_length);
+
+/* ---- A whole frame ---- */
+
+/* What the encoder had at a subframe: a list of MR74_EXCITATION words and two of MR74_SUBFRAME. */
+typedef struct {
+    const int16_t *excitation_q0;
+    size_t excitation_length;
+    const int16_t *target_q0;
+    size_t target_length;
+    const int16_t *impulse_q12;
+    size_t impulse_length;
+} mr74_subframe_lists;
+
+typedef struct {
+    uint8_t index;    /* what is sent */
+    uint16_t samples; /* the lag: whole samples and thirds */
+    int16_t fraction;
+} mr74_frame_pitch;
+
+typedef struct {
+    uint8_t number;
+    uint64_t magnitude;
+    uint16_t first_lag; /* the open-loop lags of the two half frames, 20 to 143 */
+    uint16_t second_lag;
+    mr74_frame_pitch pitches[4]; /* of subframes 1 to 4 */
+    mr74_pitch_state searcher;   /* after the call */
+} mr74_frame_answer;
+
+/*
+ * A frame in one call. Reads MR74_FRAME words of weighted speech and what the encoder had at each
+ * of the four subframes. Lags, pitches, history and searcher are those of two calls of
+ * mr74_open_loop, one for each half of the samples, and then of mr74_pitch_search for subframes 1
+ * to 4 with both lags. So a lag reader reads the four indexes as it reads those of four searches,
+ * and the searcher's `start` is that of subframe 4.
+ *
+ * The detector's MR74_HISTORY words are updated where the whole frame is accepted. Where any part
+ * is refused they stay as they are, the searcher is handed back as it was given, and no index is
+ * there to be sent: lags and pitches are 0.
+ *
+ * Refuses by 1, 2, 4 and 3: by 4, before the detector is asked, a searcher that does not expect
+ * subframe 1; by 3 a lag of either half above 120, the first half's before the second's, where the
+ * searcher is a player's. A search by itself refuses by 3 before 4.
+ */
+mr74_frame_answer mr74_frame(mr74_pitch_state searcher,
+                             const int16_t *samples_q0, size_t samples_length,
+                             mr74_subframe_lists one, mr74_subframe_lists two,
+                             mr74_subframe_lists three, mr74_subframe_lists four,
+                             int16_t *history_q0, size_t history_length);
 
 /* ---- Pulses ---- */
 
@@ -416,6 +467,15 @@ MR74_LAYOUT(sizeof(mr74_pitch_state) == 8 && offsetof(mr74_pitch_state, upper) =
             offsetof(mr74_pitch_state, start) == 6);
 MR74_LAYOUT(sizeof(mr74_pitch_answer) == 32 && offsetof(mr74_pitch_answer, next) == 26 &&
             offsetof(mr74_pitch_answer, upper) == 27 && offsetof(mr74_pitch_answer, start) == 28);
+MR74_LAYOUT(sizeof(mr74_subframe_lists) == 48 &&
+            offsetof(mr74_subframe_lists, excitation_length) == 8 &&
+            offsetof(mr74_subframe_lists, target_q0) == 16 &&
+            offsetof(mr74_subframe_lists, impulse_q12) == 32);
+MR74_LAYOUT(sizeof(mr74_frame_pitch) == 6 && offsetof(mr74_frame_pitch, samples) == 2 &&
+            offsetof(mr74_frame_pitch, fraction) == 4);
+MR74_LAYOUT(sizeof(mr74_frame_answer) == 56 && offsetof(mr74_frame_answer, first_lag) == 16 &&
+            offsetof(mr74_frame_answer, pitches) == 20 &&
+            offsetof(mr74_frame_answer, searcher) == 44);
 MR74_LAYOUT(sizeof(mr74_sharpening_gain) == 2);
 MR74_LAYOUT(sizeof(mr74_pulses_answer) == 24);
 MR74_LAYOUT(sizeof(mr74_places_answer) == 48);

@@ -1,9 +1,10 @@
 /*
  * The stages of one subframe, called from C, on silence and on a voiced sound, and both readers on
  * what they send; a tuning screen, which shows an index before it is sent; a level meter of the
- * gain row, on a sound that fits and on a loud one; and the pitch of an announcement player beside
- * that of a handset. Prints each answer, behind a pitch and a lag the start of its window, and
- * behind a preview the searcher.
+ * gain row, on a sound that fits and on a loud one; the pitch of an announcement player beside that
+ * of a handset; and a tuning bench, which searches whole logged frames. Prints each answer, behind
+ * a pitch and a lag of one subframe the start of its window, and behind a preview and a frame the
+ * searcher.
  */
 #include "mr74.h"
 
@@ -42,6 +43,12 @@ static uint16_t open_loop(state *kept, const int16_t samples[MR74_HALF_FRAME])
     return open.lag;
 }
 
+static void print_searcher(const mr74_pitch_state *searcher)
+{
+    printf("searcher %u %d %u %u %u\n", searcher->samples, searcher->fraction, searcher->next,
+           searcher->upper, searcher->start);
+}
+
 /*
  * For a tuning screen: the index and the lag that the subframe would get. The searcher is the one
  * from before, and its start that of its last window.
@@ -60,8 +67,7 @@ static void preview(state *kept, const int16_t excitation[MR74_EXCITATION],
         printf("%u %u %d\n", shown.index, shown.samples, shown.fraction);
     /* Only to print it: the answer has the searcher as it was given. */
     kept->searcher = mr74_pitch_after(&shown);
-    printf("searcher %u %d %u %u %u\n", kept->searcher.samples, kept->searcher.fraction,
-           kept->searcher.next, kept->searcher.upper, kept->searcher.start);
+    print_searcher(&kept->searcher);
 }
 
 /* The pitch of a subframe, sent and read back, each with the start of its window. */
@@ -243,6 +249,68 @@ static void upper_lag(mr74_pitch_state end)
     pitch(&kept, zeros, zeros, zeros, MR74_PLAYER_LAG + 1, 3);
 }
 
+/*
+ * For a tuning bench: a logged frame in one call. Prints both open-loop lags, what is sent for each
+ * subframe and what the reader makes of it. A refused frame has nothing to send.
+ */
+static void frame(state *kept, const int16_t samples[MR74_FRAME], const mr74_subframe_lists had[4])
+{
+    int16_t before[MR74_HISTORY];
+    memcpy(before, kept->detector, sizeof before);
+    mr74_frame_answer sent = mr74_frame(kept->searcher, samples, MR74_FRAME, had[0], had[1],
+                                        had[2], had[3], kept->detector, MR74_HISTORY);
+    kept->searcher = sent.searcher;
+    printf("frame ");
+    if (sent.number == MR74_ACCEPTED) {
+        printf("%u %u\n", sent.first_lag, sent.second_lag);
+        for (uint8_t subframe = 1; subframe <= 4; subframe++) {
+            mr74_frame_pitch pitch = sent.pitches[subframe - 1];
+            printf("pitch %u %u %d\n", pitch.index, pitch.samples, pitch.fraction);
+            mr74_pitch_answer read = mr74_read_lag(kept->reader, subframe, pitch.index);
+            kept->reader = mr74_pitch_after(&read);
+            printf("lag %u %d\n", read.samples, read.fraction);
+        }
+    } else {
+        refused(sent.number, false, sent.magnitude);
+    }
+    bool same = memcmp(before, kept->detector, sizeof before) == 0;
+    printf("history %s\n", same ? "as before" : "updated");
+    print_searcher(&kept->searcher);
+}
+
+/* A frame of a sound with a pulse every so many samples, logged with 154 words of its past. */
+static void logged(state *kept, int period)
+{
+    enum { PAST = MR74_EXCITATION - MR74_SUBFRAME, SOUND = PAST + MR74_FRAME };
+    int16_t pulses[SOUND], sound[SOUND], impulse[MR74_SUBFRAME];
+    int16_t sample = 0, response = 4096;
+    for (int i = 0; i < SOUND; i++) {
+        pulses[i] = (i - PAST) % period == 0 ? 8000 : 0;
+        sample = (int16_t)(sample * 3 / 4 + pulses[i]);
+        sound[i] = sample;
+    }
+    for (int i = 0; i < MR74_SUBFRAME; i++) {
+        impulse[i] = response;
+        response = (int16_t)(response * 3 / 4);
+    }
+    mr74_subframe_lists had[4];
+    for (int i = 0; i < 4; i++) {
+        mr74_subframe_lists lists = {pulses + MR74_SUBFRAME * i,       MR74_EXCITATION,
+                                     sound + PAST + MR74_SUBFRAME * i, MR74_SUBFRAME,
+                                     impulse,                          MR74_SUBFRAME};
+        had[i] = lists;
+    }
+    frame(kept, sound + PAST, had);
+}
+
+/* A player's frame, and one whose second half has an open-loop lag that a player refuses. */
+static void logged_frames(void)
+{
+    state kept = fresh(mr74_fresh_player());
+    logged(&kept, 45);
+    logged(&kept, 130);
+}
+
 int main(void)
 {
     silence();
@@ -251,5 +319,6 @@ int main(void)
     rising(800);
     upper_lag(mr74_fresh_player());
     upper_lag(mr74_fresh_pitch());
+    logged_frames();
     return 0;
 }

@@ -1,6 +1,8 @@
 //! The time of every stage and of the program `select`, as a ratio to the published Rust's on the
-//! same feeds in the same run. Above 1 the library is the slower one.
+//! same feeds in the same run. Above 1 the library is the slower one. A frame has a ratio to the
+//! library's own six calls too.
 
+mod frames;
 mod programs;
 pub mod rival;
 mod stages;

@@ -131,6 +131,11 @@ impl Case {
         }
     }
 
+    /// Whether it tells where the words come from.
+    pub fn is_source(self) -> bool {
+        (self as usize) < Self::Absolute as usize
+    }
+
     /// Whether only a feed can meet the case.
     pub fn needs_feed(self) -> bool {
         matches!(self, Self::Feed | Self::ChangedFeed)

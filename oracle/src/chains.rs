@@ -8,18 +8,12 @@ use crate::{
     search::Searcher,
     speech::Speech,
     subframes::{number, window},
+    turns::{Turn, Turns},
     upper::Upper,
     words::{
         EXCITATION, HISTORY, SUBFRAME, extreme, impulse_response, mixed, quiet, smooth, uniform,
     },
 };
-
-/// The places of a chain that is not the feed's.
-const STEPS: usize = 64;
-
-/// Of so many steps one is a reset and a few are made to be refused.
-const RESET_OF: u64 = 32;
-const REFUSED: u64 = 4;
 
 type Words = ([i16; EXCITATION], [i16; SUBFRAME], [i16; SUBFRAME]);
 
@@ -44,9 +38,9 @@ pub struct Chain<'a> {
     random: Random,
     source: Source,
     feed: &'a [Step],
-    /// The next place in the feed, and the steps done.
+    /// The next place in the feed, and the places of every other chain.
     place: usize,
-    done: usize,
+    turns: Turns,
 }
 
 impl<'a> Chain<'a> {
@@ -75,7 +69,7 @@ impl<'a> Chain<'a> {
             source,
             feed,
             place,
-            done: 0,
+            turns: Turns::default(),
         }
     }
 
@@ -100,27 +94,30 @@ impl<'a> Chain<'a> {
             self.place += 1;
             return self.feed.get(self.place - 1).cloned();
         }
-        if self.done == STEPS {
-            return None;
-        }
-        let choice = self.random.below(RESET_OF);
-        self.done += 1;
-        if self.done == 1 || choice == 0 {
-            return Some(Step::Reset);
-        }
-        let mut call = self.call(searcher);
-        if choice <= REFUSED {
-            let expected = number(searcher.search.next);
-            call.add_faults(&mut self.random, expected, searcher.upper);
-        }
-        Some(Step::Search(call))
+        Some(match self.turns.next(&mut self.random)? {
+            Turn::Reset => Step::Reset,
+            Turn::Accepted => Step::Search(self.call(searcher)),
+            Turn::Refused => {
+                let mut call = self.call(searcher);
+                let expected = number(searcher.search.next);
+                call.add_faults(&mut self.random, expected, searcher.upper);
+                Step::Search(call)
+            }
+        })
     }
 
     /// A call that is accepted.
     pub fn call(&mut self, searcher: &Searcher) -> Call {
         let random = &mut self.random;
         let upper = searcher.upper;
-        let mut open_loop = [open_loop(random, upper), open_loop(random, upper)];
+        let open_loop = [open_loop(random, upper), open_loop(random, upper)];
+        self.call_about(searcher, open_loop)
+    }
+
+    /// The same, with words that may lean on the windows of these lags. The call may have other
+    /// lags.
+    pub fn call_about(&mut self, searcher: &Searcher, mut open_loop: [u16; 2]) -> Call {
+        let random = &mut self.random;
         let (excitation, target, impulse) = match &mut self.source {
             Source::Feed | Source::ChangedFeed => return self.changed(searcher, open_loop),
             Source::Uniform => uniform_words(random),
@@ -131,7 +128,7 @@ impl<'a> Chain<'a> {
             Source::Speech(speech) => {
                 speech.advance(random);
                 let lags = [speech.open_loop(random), speech.open_loop(random)];
-                open_loop = lags.map(|lag| lag.min(upper.samples()));
+                open_loop = lags.map(|lag| lag.min(searcher.upper.samples()));
                 (speech.excitation, speech.target(), speech.impulse)
             }
         };

@@ -6,7 +6,6 @@ mod filters;
 mod limits;
 mod prepare;
 pub mod record;
-mod refusals;
 mod residual;
 mod sources;
 

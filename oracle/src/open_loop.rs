@@ -6,7 +6,9 @@ mod longs;
 mod pushes;
 pub mod record;
 
+pub use cases::Case;
 pub use chains::Chain;
+pub use pushes::{Step, lent_history, step};
 
 use crate::{
     codec::mr74::pitch::open_loop::Detector,
@@ -18,9 +20,9 @@ use crate::{
     subframes::Refusal,
     words::shortened,
 };
-use cases::{Case, Pushed};
+use cases::Pushed;
 use longs::Longs;
-use pushes::{Push, Step, step};
+use pushes::Push;
 use std::fmt;
 
 /// The new words of a push, and the old words that the detector keeps.

@@ -4,13 +4,17 @@
 // Declares `codec`.
 include!(concat!(env!("OUT_DIR"), "/player.rs"));
 
-use crate::{compare::Function, reader, recovery, search, selection, upper::Upper};
+use crate::{compare::Function, frames, reader, recovery, search, selection, upper::Upper};
 
-pub fn functions() -> [Function; 4] {
+pub fn functions() -> [Function; 5] {
     [
         Function {
             name: "player",
             compare: || search::compare_chains(Upper::Player),
+        },
+        Function {
+            name: "player",
+            compare: || frames::compare_chains(Upper::Player),
         },
         Function {
             name: "player",

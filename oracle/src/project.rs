@@ -4,12 +4,13 @@
 //! Nothing checks the declarations against the library's source; they repeat its interface.
 
 pub use mr74::entries::{
-    END, GainAnswer, LengthAnswer, Logarithm, OpenLoopAnswer, PitchAnswer, PitchGainAnswer,
-    PitchState, PlacesAnswer, PowerAnswer, PulsesAnswer, SharpeningGain, StepAnswer, convolve,
-    fresh_pitch, fresh_player, log2, open_loop, pow2, read_lag, read_pulses, residual,
+    END, FrameAnswer, FramePitch, GainAnswer, LengthAnswer, Logarithm, OpenLoopAnswer, PitchAnswer,
+    PitchGainAnswer, PitchState, PlacesAnswer, PowerAnswer, PulsesAnswer, SharpeningGain,
+    StepAnswer, convolve, fresh_pitch, fresh_player, log2, open_loop, pow2, read_lag, read_pulses,
+    residual,
 };
 
-use mr74::entries;
+use mr74::entries::{self, SubframeLists};
 
 /// A 32-bit number as its high word and its 15 low bits.
 #[repr(C)]
@@ -113,6 +114,22 @@ macro_rules! searchings {
     )+};
 }
 searchings!(pitch_search, preview);
+
+/// Reads the samples and each subframe's excitation, target and impulse response. The detector's
+/// old words are lent, and updated there.
+pub fn frame(
+    searcher: PitchState,
+    samples: &[i16],
+    sets: [[&[i16]; 3]; 4],
+    history_q0: &mut [i16],
+) -> FrameAnswer {
+    let sets = sets.map(|[excitation, target, impulse_q12]| SubframeLists {
+        excitation,
+        target,
+        impulse_q12,
+    });
+    entries::frame(searcher, samples, sets, history_q0)
+}
 
 /// Reads the speech, the coefficients, the quantized ones, the error history and the weighting
 /// history, and writes the residual, the impulse response, the target and the error.

@@ -1,13 +1,16 @@
 //! Demand 3's list with the library's searcher and lag reader, a handset's and a player's: searches,
 //! whose indexes may be damaged on the way to the reader, resets and stray readings. Compared are
 //! the lags where demand 3 says that they are recovered, the starts that both keep, and whether each
-//! reading is refused. Previews anywhere between change none of it.
+//! reading is refused. Previews anywhere between change none of it. Frames stand between too: an
+//! accepted one sends what four single searches send, and a refused one sends nothing.
 
 use crate::{
     calls::{Call, Step},
     chains::Chain,
+    codec::mr74::pitch::open_loop::Detector,
     compare::{Function, Line, in_threads},
     counts::{Cases, cases},
+    frames::{self, Feed, Frame, States},
     inputs::Random,
     previews::Others,
     project::{PitchAnswer, PitchState, pitch_search, preview, read_lag},
@@ -18,9 +21,12 @@ use std::fmt;
 
 const CHAINS: u64 = 8_000;
 
-/// Of so many indexes one is drawn anew, and before one of so many steps there is a stray reading.
+/// Of so many indexes one is drawn anew, before one of so many steps there is a stray reading, and
+/// before one of so many a frame. Of so many frames one has a list of another length, or two.
 const DRAWN_OF: u64 = 3;
 const STRAY_OF: u64 = 4;
+const FRAME_OF: u64 = 4;
+const LENGTH_OF: u64 = 4;
 
 /// The greatest index of subframes 2 and 4.
 const MAX_RELATIVE: u8 = 31;
@@ -34,6 +40,10 @@ cases! {
     AfterSearch => "after an intact index, a refused search between",
     AfterStray => "after an intact index, a stray reading between",
     AfterPreview => "after an intact index, a preview between",
+    AfterFrame => "after an intact index, a refused frame between",
+    FrameIntact => "frame whose four indexes are intact",
+    FrameDamaged => "frame with a damaged index",
+    FrameLength => "frame refused by 1 where subframe 1 is expected",
     Unequal => "after a damaged index, starts that differ",
     Above120 => "damaged index of subframe 1 or 3 read as a lag of 121 to 143",
     AfterAbove120 => "reading of subframe 2 or 4 after such a lag",
@@ -58,7 +68,13 @@ pub fn compare_chains(upper: Upper) -> Vec<Line> {
         tally.add(part);
     }
     let cases = Line::of_cases(tally.cases.counts(|case| case.is_of(upper)));
-    vec![tally.lags, tally.starts, tally.readings, cases]
+    vec![
+        tally.lags,
+        tally.starts,
+        tally.readings,
+        tally.frames,
+        cases,
+    ]
 }
 
 /// A step of a chain, as a report shows it.
@@ -75,10 +91,11 @@ impl fmt::Debug for Place {
     }
 }
 
-/// Searcher and reader, and the last place with no reset after it.
+/// Searcher and reader, the detector beside them, and the last place with no reset after it.
 struct Pair {
     searcher: PitchState,
     reader: PitchState,
+    detector: Detector,
     last: Option<Last>,
 }
 
@@ -90,6 +107,7 @@ struct Last {
     search_refused: bool,
     strayed: bool,
     previewed: bool,
+    frame_refused: bool,
 }
 
 impl Case {
@@ -104,7 +122,16 @@ impl Pair {
         Self {
             searcher: upper.fresh(),
             reader: upper.fresh(),
+            detector: Detector::default(),
             last: None,
+        }
+    }
+
+    /// The published detector and searcher in the same states.
+    fn states(&self) -> States {
+        States {
+            detector: self.detector.clone(),
+            searcher: Searcher::of(self.searcher).expect("a subframe that is expected"),
         }
     }
 
@@ -126,6 +153,7 @@ struct Tally {
     lags: Line,
     starts: Line,
     readings: Line,
+    frames: Line,
     cases: Cases<Case>,
 }
 
@@ -135,6 +163,7 @@ impl Tally {
             lags: Line::new("demand 3 of 01, the reader's lag where it is recovered"),
             starts: Line::new("rule of 02, reader's start after an intact index"),
             readings: Line::new("rule of 01, readings refused or not"),
+            frames: Line::new("four single searches, pitches of frames and searchers after"),
             cases: Cases::new(),
         }
     }
@@ -143,6 +172,7 @@ impl Tally {
         self.lags.add(part.lags);
         self.starts.add(part.starts);
         self.readings.add(part.readings);
+        self.frames.add(part.frames);
         self.cases.add(part.cases);
     }
 
@@ -150,15 +180,24 @@ impl Tally {
         let random = &mut Random::at(!index);
         let mut chain = Chain::at(index, &[]);
         let mut others = Others::beside(index, CHAINS, &[]);
+        let feed = Feed::default();
+        let mut frames = frames::Chain::at(index, &feed);
         let mut pair = Pair::fresh(upper);
         for number in 1.. {
-            let searcher = Searcher::of(pair.searcher).expect("a subframe that is expected");
-            let Some(step) = chain.next(&searcher) else {
-                break;
-            };
             let place = Place {
                 chain: index,
                 step: number,
+            };
+            if random.below(FRAME_OF) == 0 {
+                let mut frame = frames.frame(&pair.states());
+                if random.below(LENGTH_OF) == 0 {
+                    frame.change_lengths(random);
+                }
+                self.compare_frame(place, &mut pair, random, &frame);
+            }
+            let searcher = pair.states().searcher;
+            let Some(step) = chain.next(&searcher) else {
+                break;
             };
             if random.below(STRAY_OF) == 0 {
                 self.compare_stray(place, &mut pair, random);
@@ -198,7 +237,60 @@ impl Tally {
             }
             return;
         }
-        let subframe = call.subframe;
+        self.compare_sent(place, pair, random, (call.subframe, &sent));
+    }
+
+    /// The pitches of an accepted frame are sent, each beside that of a single search.
+    fn compare_frame(&mut self, place: Place, pair: &mut Pair, random: &mut Random, frame: &Frame) {
+        let mut history = frame.history(&pair.detector);
+        let framed = frame.called(pair.searcher, &mut history);
+        if framed.number != 0 {
+            pair.searcher = framed.searcher;
+            if framed.number == 1 && pair.due() == 1 {
+                self.cases.count(Case::FrameLength);
+            }
+            if let Some(last) = &mut pair.last {
+                last.frame_refused = true;
+            }
+            return;
+        }
+        pair.detector.history_q0.copy_from_slice(&history);
+        let mut intact = true;
+        for (call, pitch) in frame.searches.iter().zip(framed.pitches) {
+            let single = called(pitch_search, pair.searcher, call);
+            let sent = PitchAnswer {
+                index: pitch.index,
+                samples: pitch.samples,
+                fraction: pitch.fraction,
+                ..single
+            };
+            self.compare_single(place, sent, single);
+            pair.searcher = single.state();
+            intact &= self.compare_sent(place, pair, random, (call.subframe, &sent));
+        }
+        self.compare_single(place, framed.searcher, pair.searcher);
+        self.cases.count(match intact {
+            true => Case::FrameIntact,
+            false => Case::FrameDamaged,
+        });
+    }
+
+    fn compare_single<T: fmt::Debug + PartialEq>(&mut self, place: Place, framed: T, single: T) {
+        self.frames.compared += 1;
+        if framed != single {
+            self.frames
+                .difference(place.chain, &place, &framed, &single);
+        }
+    }
+
+    /// Compares what the reader makes of an index that was sent. Tells whether it arrived intact.
+    fn compare_sent(
+        &mut self,
+        place: Place,
+        pair: &mut Pair,
+        random: &mut Random,
+        (subframe, sent): (u8, &PitchAnswer),
+    ) -> bool {
         let arrived = arriving(random, subframe, sent.index);
         let before = pair.reader.samples;
         let read = self.compare_reading(place, pair, [subframe, arrived], false);
@@ -212,7 +304,7 @@ impl Tally {
         }
         let recovered = !subframe.is_multiple_of(2) || pair.last.is_some_and(|last| last.intact);
         if intact && recovered {
-            self.compare_lags(place, &sent, &read);
+            self.compare_lags(place, sent, &read);
         }
         if let Some(last) = pair.last
             && subframe.is_multiple_of(2)
@@ -225,7 +317,9 @@ impl Tally {
             search_refused: false,
             strayed: false,
             previewed: false,
+            frame_refused: false,
         });
+        intact
     }
 
     fn compare_reading(
@@ -276,6 +370,7 @@ impl Tally {
             (Case::AfterSearch, last.search_refused),
             (Case::AfterStray, last.strayed),
             (Case::AfterPreview, last.previewed),
+            (Case::AfterFrame, last.frame_refused),
         ] {
             if met {
                 self.cases.count(case);

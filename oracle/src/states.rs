@@ -56,7 +56,7 @@ pub fn functions() -> [Function; 4] {
 }
 
 /// A state, the subframe of a call, and what is left of the index.
-type Numbers = (PitchState, u8, u64);
+pub type Numbers = (PitchState, u8, u64);
 
 /// How many upper numbers `every_number` has.
 const EACH: u64 = UPPERS.len() as u64;
@@ -66,7 +66,7 @@ const EACH: u64 = UPPERS.len() as u64;
 const PAIRS: u64 = 2 * 49;
 
 /// Every expected number with every subframe, and some upper numbers.
-fn every_number(index: u64) -> Numbers {
+pub fn every_number(index: u64) -> Numbers {
     let rest = index >> 16;
     let state = PitchState {
         samples: SAMPLES[(index % 7 + rest) as usize % 8],
@@ -266,14 +266,16 @@ where
     lines
 }
 
+/// The numbers that searches must meet, 0 where they are accepted.
+pub const SEARCHES_MET: [(u8, &str); 5] = [
+    (0, "accepted"),
+    (1, "refused 1"),
+    (2, "refused 2"),
+    (3, "refused 3"),
+    (4, "refused 4"),
+];
+
 fn compare_searches() -> Vec<Line> {
-    const MET: [(u8, &str); 5] = [
-        (0, "accepted"),
-        (1, "refused 1"),
-        (2, "refused 2"),
-        (3, "refused 3"),
-        (4, "refused 4"),
-    ];
     let asked = asked(EACH, every_number);
     let with = "rule of 01, every expected number and subframe";
     let mut lines = compared_searches(with, &asked);
@@ -281,7 +283,7 @@ fn compare_searches() -> Vec<Line> {
     lines.push(numbers_met(
         &asked,
         |asked: Asked| asked.expected(&call).number,
-        &MET,
+        &SEARCHES_MET,
     ));
     lines.push(uppers_met(&asked, |asked: Asked| {
         (asked.state, asked.expected(&call))

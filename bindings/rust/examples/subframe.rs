@@ -1,7 +1,8 @@
 //! The stages of one subframe, on silence and on a voiced sound, and both readers on what they
 //! send; a tuning screen, which shows an index before it is sent; a level meter of the gain row, on
-//! a sound that fits and on a loud one; and the pitch of an announcement player beside that of a
-//! handset: the same lines as examples/c/main.c prints.
+//! a sound that fits and on a loud one; the pitch of an announcement player beside that of a
+//! handset; and a tuning bench, which searches whole logged frames: the same lines as
+//! examples/c/main.c prints.
 
 use mr74::{
     Refusal, SUBFRAME_SAMPLES,
@@ -15,6 +16,7 @@ use mr74::{
     logarithm::{log2, pow2},
     pitch::{
         LagReader, PitchLag, UpperLag,
+        frame::{FRAME_SAMPLES, SubframeInputs, frame},
         open_loop::Detector,
         search::{EXCITATION_SAMPLES, OpenLoopLag, Search, SearchedPitch, Subframe, convolve},
     },
@@ -71,6 +73,10 @@ impl State {
             }
             Err(Refusal { number, detail }) => println!("preview refused {number} {detail}"),
         }
+        self.print_searcher();
+    }
+
+    fn print_searcher(&self) {
         println!(
             "searcher {} {} {} {} {}",
             self.searcher.previous.samples(),
@@ -102,6 +108,69 @@ impl State {
         println!("start {}", self.reader.start);
         Ok(sent.lag)
     }
+
+    /// For a tuning bench: a logged frame in one call. Prints both open-loop lags, what is sent for
+    /// each subframe and what the reader makes of it. A refused frame has nothing to send.
+    fn frame(
+        &mut self,
+        samples: &[i16; FRAME_SAMPLES],
+        had: [SubframeInputs<'_>; 4],
+    ) -> Result<(), Refusal> {
+        let before = self.detector.clone();
+        match frame(&mut self.detector, &mut self.searcher, samples, had) {
+            Ok(sent) => {
+                let [first, second] = sent.open_loop.map(OpenLoopLag::samples);
+                println!("frame {first} {second}");
+                for (SearchedPitch { lag, index }, subframe) in sent.pitches.into_iter().zip([
+                    Subframe::One,
+                    Subframe::Two,
+                    Subframe::Three,
+                    Subframe::Four,
+                ]) {
+                    let thirds = lag.fraction().thirds();
+                    println!("pitch {index} {} {thirds}", lag.samples());
+                    let read = self.reader.read(subframe, index)?;
+                    println!("lag {} {}", read.samples(), read.fraction().thirds());
+                }
+            }
+            Err(Refusal { number, detail }) => println!("frame refused {number} {detail}"),
+        }
+        let same = self.detector == before;
+        println!("history {}", if same { "as before" } else { "updated" });
+        self.print_searcher();
+        Ok(())
+    }
+
+    /// A frame of a sound with a pulse every so many samples, logged with 154 words of its past.
+    fn logged(&mut self, period: usize) -> Result<(), Refusal> {
+        const SOUND: usize = PAST + FRAME_SAMPLES;
+        let pulses: [i16; SOUND] = std::array::from_fn(|i| {
+            let at_pulse = i.abs_diff(PAST).is_multiple_of(period);
+            if at_pulse { 8000 } else { 0 }
+        });
+        let mut sample = 0;
+        let sound = pulses.map(|pulse| {
+            sample = sample * 3 / 4 + pulse;
+            sample
+        });
+        let mut response = 4096;
+        let impulse: Words = std::array::from_fn(|_| {
+            let word = response;
+            response = response * 3 / 4;
+            word
+        });
+        let had = std::array::from_fn(|i| SubframeInputs {
+            excitation: words_from(&pulses, SUBFRAME_SAMPLES * i),
+            target: words_from(&sound, PAST + SUBFRAME_SAMPLES * i),
+            impulse_q12: &impulse,
+        });
+        self.frame(words_from(&sound, PAST), had)
+    }
+}
+
+/// So many words of a longer list, from a place on.
+fn words_from<const N: usize>(words: &[i16], place: usize) -> &[i16; N] {
+    words[place..].first_chunk().expect("as many words")
 }
 
 /// The pulses of a subframe, sent and read back; the filtered ones are for the gain row.
@@ -288,11 +357,19 @@ fn upper_lag(mut state: State) -> Result<(), Refusal> {
     Ok(())
 }
 
+/// A player's frame, and one whose second half has an open-loop lag that a player refuses.
+fn logged_frames() -> Result<(), Refusal> {
+    let mut state = State::player();
+    state.logged(45)?;
+    state.logged(130)
+}
+
 fn main() -> Result<(), Refusal> {
     silence()?;
     voiced()?;
     rising(200)?;
     rising(800)?;
     upper_lag(State::player())?;
-    upper_lag(State::default())
+    upper_lag(State::default())?;
+    logged_frames()
 }

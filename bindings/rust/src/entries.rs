@@ -23,8 +23,9 @@ answers! {
     /// A searcher or a lag reader: the lag before, its thirds, the subframe expected next, the upper
     /// lag, and the start of the last window. No answer depends on the thirds or on the start. An
     /// `upper` of 120 is an announcement player's, and every other is taken as a handset's. A
-    /// `next` outside 1 to 4 is refused by 2, after the call's own subframe. A refusal, and a
-    /// preview always, hands back the numbers that were given, whatever they are.
+    /// `next` outside 1 to 4 is refused by 2, after the call's own subframe (a whole frame is given
+    /// none). A refusal, and a preview always, hands back the numbers that were given, whatever
+    /// they are.
     PitchState { samples: u16, fraction: i16, next: u8, upper: u8, start: u16, }
     /// The index and the lag, then the searcher or reader after the call.
     PitchAnswer {
@@ -38,6 +39,17 @@ answers! {
         next: u8,
         upper: u8,
         start: u16,
+    }
+    /// The index and the lag of one subframe of a whole frame.
+    FramePitch { index: u8, samples: u16, fraction: i16, }
+    /// Both open-loop lags and four pitches, then the searcher after the call.
+    FrameAnswer {
+        number: u8,
+        magnitude: u64,
+        first_lag: u16,
+        second_lag: u16,
+        pitches: [FramePitch; 4],
+        searcher: PitchState,
     }
     PulsesAnswer { number: u8, magnitude: u64, positions: u16, signs: u16, }
     PlacesAnswer {
@@ -114,6 +126,38 @@ pub struct SharpeningGain(pub i16);
 /// What stands for a record's kind where the feed has ended.
 pub const END: u8 = 7;
 
+/// What the encoder had at a subframe, lists of any length.
+#[derive(Debug, Clone, Copy, PartialEq, Eq)]
+pub struct SubframeLists<'a> {
+    pub excitation: &'a [i16],
+    pub target: &'a [i16],
+    pub impulse_q12: &'a [i16],
+}
+
+/// The same as it crosses: each list as its first word and its length.
+#[repr(C)]
+struct LentLists {
+    excitation: *const i16,
+    excitation_length: usize,
+    target: *const i16,
+    target_length: usize,
+    impulse_q12: *const i16,
+    impulse_length: usize,
+}
+
+impl LentLists {
+    fn of(lists: SubframeLists<'_>) -> Self {
+        Self {
+            excitation: lists.excitation.as_ptr(),
+            excitation_length: lists.excitation.len(),
+            target: lists.target.as_ptr(),
+            target_length: lists.target.len(),
+            impulse_q12: lists.impulse_q12.as_ptr(),
+            impulse_length: lists.impulse_q12.len(),
+        }
+    }
+}
+
 impl PitchAnswer {
     /// The searcher or reader after the call.
     pub fn state(&self) -> PitchState {
@@ -151,8 +195,8 @@ impl StepAnswer {
     }
 }
 
-/// Declares a function and its safe form. A list crosses as its first word and its length, a number
-/// or a struct as it is.
+/// Declares a function and its safe form. A list crosses as its first word and its length, the four
+/// sets of a frame one after the other, a number or a struct as it is.
 macro_rules! entries {
     ($($(#[$meta:meta])* fn $name:ident as $symbol:ident($($parameters:tt)*) -> $answer:ty;)*) => {$(
         entries! { @ [$(#[$meta])* $name $symbol $answer] [] [] [] $($parameters)*, }
@@ -164,6 +208,13 @@ macro_rules! entries {
     (@ $head:tt [$($p:tt)*] [$($t:tt)*] [$($a:tt)*] $list:ident: &mut [$word:ty], $($rest:tt)*) => {
         entries! { @ $head [$($p)* $list: &mut [$word],] [$($t)* _: *mut $word, _: usize,]
             [$($a)* $list.as_mut_ptr(), $list.len(),] $($rest)* }
+    };
+    (@ $head:tt [$($p:tt)*] [$($t:tt)*] [$($a:tt)*] $sets:ident: [SubframeLists; 4],
+        $($rest:tt)*) => {
+        entries! { @ $head [$($p)* $sets: [SubframeLists<'_>; 4],]
+            [$($t)* _: LentLists, _: LentLists, _: LentLists, _: LentLists,]
+            [$($a)* LentLists::of($sets[0]), LentLists::of($sets[1]), LentLists::of($sets[2]),
+                LentLists::of($sets[3]),] $($rest)* }
     };
     (@ $head:tt [$($p:tt)*] [$($t:tt)*] [$($a:tt)*] $number:ident: $type:ty, $($rest:tt)*) => {
         entries! { @ $head [$($p)* $number: $type,] [$($t)* _: $type,]
@@ -248,6 +299,17 @@ entries! {
         impulse_q12: &[i16],
         output: &mut [i16]
     ) -> LengthAnswer;
+
+    /// The lags, the pitches and the states after them are those of two calls of `open_loop`, one
+    /// for each half of the samples, and four of `pitch_search`, subframes 1 to 4 with both lags.
+    /// The detector's old words are lent, and updated there where the whole frame is accepted. A
+    /// searcher that does not expect subframe 1 is refused by 4 before 3.
+    fn frame as mr74_frame(
+        searcher: PitchState,
+        samples_q0: &[i16],
+        sets: [SubframeLists; 4],
+        history_q0: &mut [i16]
+    ) -> FrameAnswer;
 
     fn pulse_search as mr74_pulse_search(
         target: &[i16],

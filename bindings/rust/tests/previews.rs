@@ -2,7 +2,7 @@
 
 mod inputs;
 
-use inputs::{Drawn, SILENCE, SILENT_EXCITATION, on_silence};
+use inputs::{Drawn, SILENCE, SILENT_EXCITATION, SUBFRAMES, on_silence};
 use mr74::{
     Refusal, SUBFRAME_SAMPLES,
     entries::{self, PitchAnswer, PitchState},
@@ -13,13 +13,6 @@ use mr74::{
 };
 
 type Words = [i16; SUBFRAME_SAMPLES];
-
-const SUBFRAMES: [Subframe; 4] = [
-    Subframe::One,
-    Subframe::Two,
-    Subframe::Three,
-    Subframe::Four,
-];
 
 /// What is searched in a subframe.
 struct Inputs {

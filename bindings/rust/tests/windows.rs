@@ -2,7 +2,7 @@
 
 mod inputs;
 
-use inputs::{Drawn, SILENCE, SILENT_EXCITATION, on_silence};
+use inputs::{Drawn, SILENCE, SILENT_EXCITATION, SUBFRAMES, on_silence};
 use mr74::{
     Refusal,
     entries::{self, PitchAnswer, PitchState},
@@ -400,12 +400,7 @@ fn lags_lie_in_their_windows(
     let mut met = [false; 12];
     for _ in 0..FRAMES {
         let lags = [(); 2].map(|()| 20 + drawn.below(u32::from(upper) - 19) as u16);
-        for subframe in [
-            Subframe::One,
-            Subframe::Two,
-            Subframe::Three,
-            Subframe::Four,
-        ] {
+        for subframe in SUBFRAMES {
             let previous = searcher.previous.samples();
             let (excitation, target) = (drawn.words(), drawn.words());
             let impulse = drawn.words();

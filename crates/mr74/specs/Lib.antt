@@ -3,6 +3,7 @@ pub mod Details
 pub mod Lengths
 pub mod OpenLoops
 pub mod Pitches
+pub mod Frames
 pub mod Pulses
 pub mod Gains
 pub mod Powers

@@ -4,6 +4,7 @@
 pub mod closed_loop;
 mod details;
 pub mod filtering;
+pub mod frames;
 pub mod gain_row;
 pub mod open_loop_lag;
 pub mod power;

@@ -15,7 +15,7 @@ abbrev pub known_subframes : ℕ → ℕ → List Check
 known_subframes n next = known_subframe n ∷ known_subframe next ∷ []
 
 -- what a stage answers and the numbers after it: where it refuses, those that were given
-abbrev pub keeping : {A S : Type 0} → PitchState → (S → PitchState) → Outcome A S → Outcome A PitchState
+abbrev pub keeping : {A S N : Type 0} → N → (S → N) → Outcome A S → Outcome A N
 keeping given numbers o = record { answer = o.answer; after = cond (accepts o.answer) (numbers o.after) given }
 
 -- 01, numbers 1 and 2 of a search, that of the expected subframe last

@@ -2,7 +2,7 @@
 -- before a subframe two or four that follows an intact place they hold the same whole lag.
 use mathlib.Core.Path.{◌≡◌, refl, sym, ap, ◌∙◌}
 use mathlib.Core.Bool.{Bool, true, false, cond, ◌||◌}
-use mathlib.Core.List.{List, [], ◌∷◌}
+use mathlib.Core.List.{List, [], ◌∷◌, ◌++◌}
 use mathlib.Core.Logic.{◌⊎◌, inl, inr}
 use Prim.Native.Nat.{ℕ, ◌+◌, ◌%◌, ◌≤◌, ◌<◌}
 use native.Mathlib.Omega.{arith}
@@ -29,7 +29,11 @@ use Rattle.pitch_window.specs.Windows.{start_of}
 use Rattle.pitch_window.proofs.Sendings.{sent_back}
 use Rattle.pitch_search.specs.Searches.{reset_search, accepted}
 use Rattle.pitch_search.proofs.Outcomes.{is_expected, through, unchanged}
-use Rattle.recovery.specs.Runs.{Input, Entry, search, reset, stray, State, fresh_state, Event, Step, answered, searched, step, run}
+use Rattle.frame.specs.declared.FramePitches.{FramePitches}
+use Rattle.frame.specs.Frames.{Subframes, four_searches}
+use Rattle.frame.proofs.Parts.{Searched, accepted as frame_accepted, unchanged as frame_unchanged}
+use Rattle.recovery.specs.Runs.{Input, FrameInput, Entry, search, reset, stray, frame, State, fresh_state, Event, Step, answered, searched, searched_step, reset_step, stray_step, frame_refused_step, frame_state, frame_answered, framed, after_all, run}
+use Rattle.recovery.specs.Frames.{single}
 use Rattle.recovery.specs.Windows.{SameStart, WindowsAgree}
 use Rattle.recovery.specs.Statement.{Last, none, last, last_after, due, one_or_three, FollowsIntact, WithinWidth, Stray, Recovers, Each, Recovery}
 
@@ -220,21 +224,74 @@ module _ (upper : UpperLag) (σ : State) (m : Last) (inv : InStep upper σ m) wh
   made_fresh_again : record { searcher = reset_search s; reader = reset_reader r } ≡ fresh_state upper
   made_fresh_again = rw (inv.searchers, inv.readers)
 
-  -- ---- one entry
-  keeps : (e : Entry) → Of WithinWidth m (step σ e) → Of Stray m (step σ e) → Keeps upper m (step σ e)
-  keeps (search x i) w t = searching x i (searched s x).answer refl w
-  keeps reset w t = ((made_fresh_again, tt), rw made_fresh_again (fresh_in_step upper))
-  keeps (stray n i) w t =
-      let a = stray_refused r n i (rw (← inv.is_due, ← inv.same) at t) in
-      (((a.0, rw a.1), tt), rw a.1 inv)
+  -- ---- an entry of one step
+  keeps_search : (x : Input) (i : ℕ) → let t = searched_step σ x i in Of WithinWidth m t → Keeps upper m t
+  keeps_search x i w = searching x i (searched s x).answer refl w
+
+  keeps_reset : Keeps upper m (reset_step σ)
+  keeps_reset = ((made_fresh_again, tt), rw made_fresh_again (fresh_in_step upper))
+
+  keeps_stray : (n i : ℕ) → let t = stray_step σ n i in Of Stray m t → Keeps upper m t
+  keeps_stray n i t = let a = stray_refused r n i (rw (← inv.is_due, ← inv.same) at t) in (((a.0, rw a.1), tt), rw a.1 inv)
+
+  keeps_refused_frame : (n : ℕ) (d : ℤ) → Keeps upper m (frame_refused_step σ s n d)
+  keeps_refused_frame n d = ((refl, tt), inv)
 
 -- ---- the list
 module _ (upper : UpperLag) where
-  all : (σ : State) (m : Last) (es : List Entry) → InStep upper σ m → Each WithinWidth m (run σ es) → Each Stray m (run σ es) →
-      Each (Claims upper) m (run σ es)
+  -- where both hypotheses are met, so are the claims
+  abbrev Runs : Last → List Step → Type 0
+  Runs m ss = Each WithinWidth m ss → Each Stray m ss → Each (Claims upper) m ss
+
+  -- one more step before a run
+  before_run : (m : Last) (t : Step) (ss : List Step) → (Of WithinWidth m t → Of Stray m t → Keeps upper m t) →
+      (InStep upper t.after (last_after m t.event) → Runs (last_after m t.event) ss) → Runs m (t ∷ ss)
+  before_run m t ss keeps rest (w, ws) (o, os) = let k = keeps w o in (k.0, rest k.1 ws os)
+
+  module _ (σ : State) (m : Last) (inv : InStep upper σ m) (x : FrameInput) (i : Subframes ℕ) (es : List Entry)
+      (rest : (τ : State) (n : Last) → InStep upper τ n → Runs n (run τ es)) where
+    -- the run of a frame and of the entries behind it, by the frame's searcher and answer
+    abbrev from_frame : Search → Told FramePitches → List Step
+    from_frame s a = framed σ x i s a ++ run (after_all σ (framed σ x i s a)) es
+
+    -- each of its four places is that of a single search
+    accepted_frame : (p : FramePitches) → Searched σ.searcher x.sets p →
+        Runs m (from_frame (four_searches σ.searcher x.sets p.first.0 p.second.0).four.after (values p))
+    accepted_frame p f =
+        let o = four_searches σ.searcher x.sets p.first.0 p.second.0 in
+        let a = answered σ 1 i.one o.one.after (values p.one) in
+        let b = answered a.after 2 i.two o.two.after (values p.two) in
+        let c = answered b.after 3 i.three o.three.after (values p.three) in
+        let d = answered c.after 4 i.four o.four.after (values p.four) in
+        let behind = run d.after es in
+        before_run m a (b ∷ c ∷ d ∷ behind) (λ w t. placed upper σ m inv (single x.sets.one p.first.0 p.second.0 1) i.one p.one f.one w)
+        (λ v. before_run (last_after m a.event) b (c ∷ d ∷ behind)
+        (λ w t. placed upper a.after _ v (single x.sets.two p.first.0 p.second.0 2) i.two p.two f.two w)
+        (λ v. before_run (last_after m b.event) c (d ∷ behind)
+        (λ w t. placed upper b.after _ v (single x.sets.three p.first.0 p.second.0 3) i.three p.three f.three w)
+        (λ v. before_run (last_after m c.event) d behind
+        (λ w t. placed upper c.after _ v (single x.sets.four p.first.0 p.second.0 4) i.four p.four f.four w)
+        (λ v. rest d.after (last_after m d.event) v))))
+
+    frame_by : (s : Search) (a : Told FramePitches) → (frame_answered σ.searcher x).after.searcher ≡ s → (frame_answered σ.searcher x).answer ≡ a →
+        Runs m (from_frame s a)
+    frame_by s (values p) e h =
+        let f = (frame_accepted (frame_state σ.searcher x) x.samples x.sets p h).1 in
+        rw (sym e ∙ f.searcher) (accepted_frame p f.answers)
+    frame_by s (refused n d) e h =
+        let u = ap (λ τ. τ.searcher) (frame_unchanged (frame_state σ.searcher x) x.samples x.sets (ap accepts h)) in
+        rw (sym e ∙ u) (before_run m (frame_refused_step σ σ.searcher n d) _ (λ w t. keeps_refused_frame upper σ m inv n d) (λ v. rest σ m v))
+
+  all : (σ : State) (m : Last) (es : List Entry) → InStep upper σ m → Runs m (run σ es)
   unfolding run
-  all σ m [] inv w t = tt
-  all σ m (e ∷ es) inv (w, ws) (t, ts) = let k = keeps upper σ m inv e w t in (k.0, all (step σ e).after (last_after m (step σ e).event) es k.1 ws ts)
+  all σ m [] inv = λ w t. tt
+  all σ m (search x i ∷ es) inv =
+      let t = searched_step σ x i in before_run m t _ (λ w o. keeps_search upper σ m inv x i w) (λ v. all t.after (last_after m t.event) es v)
+  all σ m (reset ∷ es) inv =
+      let t = reset_step σ in before_run m t _ (λ w o. keeps_reset upper σ m inv) (λ v. all t.after none es v)
+  all σ m (stray n i ∷ es) inv =
+      let t = stray_step σ n i in before_run m t _ (λ w o. keeps_stray upper σ m inv n i o) (λ v. all t.after m es v)
+  all σ m (frame x i ∷ es) inv = frame_by σ m inv x i es (λ τ n v. all τ n es v) _ _ refl refl
 
   -- one of the claims by itself
   each : (P : Last → State → Event → State → Type 0) → ((m : Last) (s : Step) → Of (Claims upper) m s → Of P m s) →

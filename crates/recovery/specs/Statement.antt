@@ -2,7 +2,7 @@
 use Rattle.std.specs.Prelude.{◌≡◌, Bool, true, false, cond, ◌||◌, List, [], ◌∷◌, ◌⊎◌, ℕ, ◌+◌, ◌%◌, ◌≤◌, ◌<◌, eqb}
 use Rattle.refusal.specs.Refused.{values, accepts}
 use Rattle.pitch.specs.declared.UpperLag.{UpperLag}
-use Rattle.recovery.specs.Runs.{Entry, Place, Event, at_place, search_refused, made_fresh, strayed, Step, State, fresh_state, run}
+use Rattle.recovery.specs.Runs.{Entry, Place, Event, at_place, search_refused, frame_refused, made_fresh, strayed, Step, State, fresh_state, run}
 
 -- the last place with no reset after it
 pub data Last : Type 0 where
@@ -13,6 +13,7 @@ pub data Last : Type 0 where
 abbrev pub last_after : Last → Event → Last
 last_after m (at_place p) = last p
 last_after m (search_refused n d) = m
+last_after m (frame_refused n d) = m
 last_after m made_fresh = none
 last_after m (strayed n i r) = m
 
@@ -39,6 +40,7 @@ FollowsIntact (last q) = Intact q
 abbrev pub WithinWidth : Last → State → Event → State → Type 0
 WithinWidth m σ (at_place p) τ = p.arrived ≤ cond (one_or_three p.subframe) 255 31
 WithinWidth m σ (search_refused n d) τ = Unit {0}
+WithinWidth m σ (frame_refused n d) τ = Unit {0}
 WithinWidth m σ made_fresh τ = Unit {0}
 WithinWidth m σ (strayed n i r) τ = Unit {0}
 
@@ -46,15 +48,17 @@ WithinWidth m σ (strayed n i r) τ = Unit {0}
 abbrev pub Stray : Last → State → Event → State → Type 0
 Stray m σ (at_place p) τ = Unit {0}
 Stray m σ (search_refused n d) τ = Unit {0}
+Stray m σ (frame_refused n d) τ = Unit {0}
 Stray m σ made_fresh τ = Unit {0}
 Stray m σ (strayed n i r) τ = (n ≡ due m → ⊥) ⊎ (((n ≡ 2) ⊎ (n ≡ 4)) × (31 < i))
 
 -- a place: the reader answers, and it answers the search's whole lag and fraction where the index is intact and the place is subframe one or three or
--- directly follows an intact one. A refused search hands it nothing, a stray reading is refused, and both change nothing. A reset makes both fresh.
+-- directly follows an intact one. A refused search or frame hands it nothing, a stray reading is refused, and all change nothing. A reset makes both fresh.
 abbrev pub Recovers : UpperLag → Last → State → Event → State → Type 0
 Recovers upper m σ (at_place p) τ =
     (accepts p.reading ≡ true) × (Intact p → (one_or_three p.subframe ≡ true) ⊎ FollowsIntact m → p.reading ≡ values p.sent.lag)
 Recovers upper m σ (search_refused n d) τ = τ ≡ σ
+Recovers upper m σ (frame_refused n d) τ = τ ≡ σ
 Recovers upper m σ made_fresh τ = τ ≡ fresh_state upper
 Recovers upper m σ (strayed n i r) τ = (accepts r ≡ false) × (τ ≡ σ)
 

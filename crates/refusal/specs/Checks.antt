@@ -2,7 +2,7 @@
 use Rattle.std.specs.Prelude.{Bool, cond, ◌&&◌, List, [], ◌∷◌, ℕ, leb, eqb, ℤ, pos, negsuc, length}
 use Rattle.std.specs.Int.Signed.{le_z}
 use Rattle.refusal.specs.declared.Step.{Step}
-use Rattle.refusal.specs.Refused.{Told, refused, told}
+use Rattle.refusal.specs.Refused.{Told, values, refused, told}
 
 -- one check: whether it passes, and the number and detail of its refusal
 pub record Check : Type 0 where
@@ -27,6 +27,11 @@ told_step s = record { answer = told s.answer; after = s.after }
 -- a refusal leaves the state as it was
 abbrev pub unless_refused : {A S : Type 0} → List Check → S → Outcome A S → Outcome A S
 unless_refused cs state accepted = checked cs (λ n d. record { answer = refused n d; after = state }) accepted
+
+-- an answer of several parts, with the state after them: where one of them refuses, the state is as it was
+abbrev pub whole_or_nothing : {A S : Type 0} → S → Told (A × S) → Outcome A S
+whole_or_nothing state (values (a, after)) = record { answer = values a; after = after }
+whole_or_nothing state (refused n d) = record { answer = refused n d; after = state }
 
 -- low to high, both included
 abbrev pub within : ℕ → ℕ → ℕ → Bool

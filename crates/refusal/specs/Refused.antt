@@ -63,3 +63,8 @@ told (Err r) = turned_down r
 abbrev pub put : {A B : Type 0} → (A → B) → Told A → Told B
 put f (values a) = values (f a)
 put f (refused n d) = refused n d
+
+-- what follows an answer with values, or the refusal
+abbrev pub and_then : {A B : Type 0} → Told A → (A → Told B) → Told B
+and_then (values a) next = next a
+and_then (refused n d) next = refused n d

@@ -1,6 +1,9 @@
 //! The stages, each on all its records of a feed in order, with the state that it keeps.
 
-use super::{Feed, Row, best};
+use super::{
+    Feed, Row, best,
+    frames::{Library, Published},
+};
 use crate::{
     bindings, calls,
     codec::mr74::{
@@ -11,7 +14,9 @@ use crate::{
         },
     },
     feed::{self, Record},
-    filtering, gain,
+    filtering,
+    frames::{Frame, Step, logged},
+    gain,
     open_loop::HALF_FRAME,
     project::{PitchAnswer, preview},
     pulses,
@@ -22,6 +27,8 @@ use crate::{
 use std::{hint::black_box, time::Instant};
 
 const ROUNDS: usize = 25;
+/// The rounds of two sides that do the same work.
+const EVEN_ROUNDS: usize = 300;
 /// The least time of a round, in seconds.
 const ROUND: f64 = 0.001;
 
@@ -29,10 +36,12 @@ const ROUND: f64 = 0.001;
 type Ratio = fn(&Calls) -> f64;
 
 pub fn rows(feeds: &[Feed]) -> Vec<Row> {
-    let stages: [(&str, Ratio); 9] = [
+    let stages: [(&str, Ratio); 11] = [
         ("open loop", Calls::open_loop),
         ("pitch", Calls::pitch),
         ("preview", Calls::preview),
+        ("frame", Calls::frame),
+        ("frame, its six calls being 1", Calls::frame_to_calls),
         ("pulses", Calls::pulses),
         ("gain", Calls::gain),
         ("filtering", Calls::filtering),
@@ -71,17 +80,34 @@ impl<C, S, A> Side<C, S, A> {
         }
         start.elapsed().as_secs_f64()
     }
+
+    /// How many times all calls make a round.
+    fn times(&self, calls: &[C]) -> usize {
+        assert!(!calls.is_empty(), "a feed without such records");
+        1 + (ROUND / self.round(calls, 1)) as usize
+    }
 }
 
 fn ratio<C, S, T, A, B>(calls: &[C], ours: Side<C, S, A>, other: Side<C, T, B>) -> f64 {
-    assert!(!calls.is_empty(), "a feed without such records");
-    let times = 1 + (ROUND / other.round(calls, 1)) as usize;
+    let times = other.times(calls);
     let [ours, other] = best(
         ROUNDS,
         || ours.round(calls, times),
         || other.round(calls, times),
     );
     ours / other
+}
+
+/// The same of two sides that do the same work. The ratio is so near 1 that the machine's changes
+/// between two rounds matter, so it is the middle one of the ratios of many rounds.
+fn even_ratio<C, S, T, A, B>(calls: &[C], ours: Side<C, S, A>, other: Side<C, T, B>) -> f64 {
+    let times = other.times(calls);
+    let mut ratios = [(); EVEN_ROUNDS].map(|()| {
+        let ours = ours.round(calls, times);
+        ours / other.round(calls, times)
+    });
+    ratios.sort_by(f64::total_cmp);
+    ratios[EVEN_ROUNDS / 2]
 }
 
 /// The same of functions that keep nothing.
@@ -103,8 +129,11 @@ macro_rules! plain {
 
 /// The same of stages that keep something, which a reset makes fresh.
 macro_rules! kept {
-    ($calls:expr, |$state:ident, $call:ident| $($fresh:path => $answer:expr),+ $(,)?) => {
-        ratio(
+    (
+        $ratio:ident of $calls:expr,
+        |$state:ident, $call:ident| $($fresh:path => $answer:expr),+ $(,)?
+    ) => {
+        $ratio(
             $calls,
             $(Side {
                 fresh: $fresh,
@@ -116,6 +145,9 @@ macro_rules! kept {
                 },
             }),+
         )
+    };
+    ($calls:expr, $($sides:tt)+) => {
+        kept!(ratio of $calls, $($sides)+)
     };
 }
 
@@ -167,6 +199,7 @@ impl Pitch {
 struct Calls {
     halves: Vec<Kept<[i16; HALF_FRAME]>>,
     pitches: Vec<Kept<Pitch>>,
+    frames: Vec<Kept<Frame>>,
     pulses: Vec<pulses::Call>,
     pulse_words: Vec<[u16; 2]>,
     gains: Vec<gain::Call>,
@@ -176,7 +209,10 @@ struct Calls {
 
 impl Calls {
     fn of(records: &[Record]) -> Self {
-        let mut calls = Self::default();
+        let mut calls = Self {
+            frames: frames(records),
+            ..Self::default()
+        };
         let mut searcher = Searcher::default();
         let mut resets = [false; 3];
         for Record { kind, body } in records {
@@ -255,6 +291,21 @@ impl Calls {
         )
     }
 
+    fn frame(&self) -> f64 {
+        kept!(&self.frames, |states, frame|
+            Library::fresh => states.frame(frame),
+            Published::default => states.six_calls(frame),
+        )
+    }
+
+    /// To the library's own calls, through the entries for C as the frame is.
+    fn frame_to_calls(&self) -> f64 {
+        kept!(even_ratio of &self.frames, |states, frame|
+            Library::fresh => states.frame(frame),
+            Library::fresh => states.six_calls(frame),
+        )
+    }
+
     fn pulses(&self) -> f64 {
         plain!(
             &self.pulses,
@@ -321,6 +372,22 @@ impl Calls {
             Codebook::try_new(words[0], words[1]),
         )
     }
+}
+
+/// The whole frames of a feed.
+fn frames(records: &[Record]) -> Vec<Kept<Frame>> {
+    let mut frames = Vec::new();
+    let mut reset = false;
+    for step in logged(records) {
+        match step {
+            Step::Reset => reset = true,
+            Step::Frame(frame) => frames.push(Kept {
+                reset: std::mem::take(&mut reset),
+                call: *frame,
+            }),
+        }
+    }
+    frames
 }
 
 fn open_loop_lag(samples: u16) -> mr74::pitch::search::OpenLoopLag {

@@ -4,7 +4,6 @@ use super::{
     COEFFICIENTS, Compared, INPUT, ORDER,
     cases::{CHANGES, Case, FACTORS, PARTS, Prepared},
     filters,
-    refusals::{Lengths, Refusals, refused},
     sources::{self, Drawn},
 };
 use crate::{
@@ -12,6 +11,7 @@ use crate::{
     counts::Cases,
     lent::{Answered, unwritten},
     project::{self, ACCEPTED},
+    refusals::{Lengths, Refusals, refused},
     subframes::length_answer,
     words::SUBFRAME,
 };

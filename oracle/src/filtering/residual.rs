@@ -2,7 +2,6 @@
 
 use super::{
     COEFFICIENTS, Call, Compared, INPUT, filters,
-    refusals::{Lengths, Refusals, refused},
     sources::{self, Drawn},
 };
 use crate::{
@@ -10,6 +9,7 @@ use crate::{
     counts::{Cases, Found},
     lent::{Answered, unwritten},
     project::{self, ACCEPTED},
+    refusals::{Lengths, Refusals, refused},
     subframes::length_answer,
     words::SUBFRAME,
 };

@@ -124,6 +124,11 @@ impl Case {
         )
     }
 
+    /// Whether it tells where the words come from, in the chains of any source.
+    pub fn is_source(self) -> bool {
+        (self as usize) < Self::Section1 as usize && !matches!(self, Self::Greatest)
+    }
+
     /// Whether only a feed can meet the case.
     pub fn needs_feed(self) -> bool {
         matches!(self, Self::Feed | Self::ChangedFeed)

@@ -8,15 +8,9 @@ use super::{
 use crate::{
     inputs::Random,
     speech::Speech,
+    turns::{Turn, Turns},
     words::{extreme, mixed, quiet, smooth, uniform},
 };
-
-/// The places of a chain that is not the feed's.
-const STEPS: usize = 64;
-
-/// Of so many steps one is a reset and a few are made to be refused.
-const RESET_OF: u64 = 32;
-const REFUSED: u64 = 4;
 
 const SHORTEST_PERIOD: u64 = 20;
 const PERIODS: u64 = 124;
@@ -54,9 +48,9 @@ pub struct Chain<'a> {
     random: Random,
     source: Source,
     feed: &'a [Step],
-    /// The next place in the feed, and the steps done.
+    /// The next place in the feed, and the places of every other chain.
     place: usize,
-    done: usize,
+    turns: Turns,
 }
 
 impl<'a> Chain<'a> {
@@ -95,7 +89,7 @@ impl<'a> Chain<'a> {
             source,
             feed,
             place,
-            done: 0,
+            turns: Turns::default(),
         }
     }
 
@@ -108,7 +102,7 @@ impl<'a> Chain<'a> {
             random,
             feed: &[],
             place: 0,
-            done: 0,
+            turns: Turns::default(),
         }
     }
 
@@ -137,19 +131,15 @@ impl<'a> Chain<'a> {
             self.place += 1;
             return self.feed.get(self.place - 1).cloned();
         }
-        if self.done == STEPS {
-            return None;
-        }
-        let choice = self.random.below(RESET_OF);
-        self.done += 1;
-        if self.done == 1 || choice == 0 {
-            return Some(Step::Reset);
-        }
-        let mut push = Push::new(self.words(history).to_vec());
-        if choice <= REFUSED {
-            push.add_faults(&mut self.random);
-        }
-        Some(Step::Push(push))
+        Some(match self.turns.next(&mut self.random)? {
+            Turn::Reset => Step::Reset,
+            Turn::Accepted => Step::Push(Push::new(self.words(history).to_vec())),
+            Turn::Refused => {
+                let mut push = Push::new(self.words(history).to_vec());
+                push.add_faults(&mut self.random);
+                Step::Push(push)
+            }
+        })
     }
 
     /// The words of a push that is accepted.

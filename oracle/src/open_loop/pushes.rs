@@ -5,6 +5,7 @@ use super::{HALF_FRAME, HISTORY};
 use crate::{
     feed::{self, Record},
     inputs::Random,
+    refusals::other_than,
     subframes::{Refusal, check_lengths},
 };
 
@@ -42,10 +43,9 @@ impl Push {
         Ok(samples.expect("a length that was checked"))
     }
 
-    /// The list that is lent as the history: the detector's own words, or another made of them.
+    /// The list that is lent as the history.
     pub fn history(&self, own: &[i16; HISTORY]) -> Vec<i16> {
-        let words = own.iter().cycle();
-        words.take(self.history_length).copied().collect()
+        lent_history(own, self.history_length)
     }
 
     /// Gives one of the lists another length, or both, so that the order of the checks is seen
@@ -62,20 +62,21 @@ impl Push {
     }
 }
 
+/// The list of this length that is lent as the history: the detector's own words, or another made
+/// of them.
+pub fn lent_history(own: &[i16; HISTORY], length: usize) -> Vec<i16> {
+    own.iter().cycle().take(length).copied().collect()
+}
+
 /// Another length than the needed one. Some agree with it in their low byte.
 fn wrong_length(random: &mut Random, needed: usize) -> usize {
     const LENGTHS: [usize; 9] = [0, 1, 79, 80, 81, 142, 143, 144, 160];
-    loop {
-        let length = match random.below(16) {
-            0 => needed + 256,
-            1 => needed + 512,
-            2..5 => random.below(300) as usize,
-            _ => LENGTHS[random.below(LENGTHS.len() as u64) as usize],
-        };
-        if length != needed {
-            return length;
-        }
-    }
+    other_than(needed, || match random.below(16) {
+        0 => needed + 256,
+        1 => needed + 512,
+        2..5 => random.below(300) as usize,
+        _ => LENGTHS[random.below(LENGTHS.len() as u64) as usize],
+    })
 }
 
 /// The step of a feed's record: a reset or a half frame, no other.

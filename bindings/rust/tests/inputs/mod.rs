@@ -3,11 +3,18 @@
 use mr74::{
     SUBFRAME_SAMPLES,
     entries::{PitchAnswer, PitchState},
-    pitch::search::EXCITATION_SAMPLES,
+    pitch::search::{EXCITATION_SAMPLES, Subframe},
 };
 
 pub const SILENCE: [i16; SUBFRAME_SAMPLES] = [0; SUBFRAME_SAMPLES];
 pub const SILENT_EXCITATION: [i16; EXCITATION_SAMPLES] = [0; EXCITATION_SAMPLES];
+
+pub const SUBFRAMES: [Subframe; 4] = [
+    Subframe::One,
+    Subframe::Two,
+    Subframe::Three,
+    Subframe::Four,
+];
 
 /// `entries::pitch_search` or `entries::preview`.
 type Entry = fn(PitchState, &[i16], &[i16], &[i16], u16, u16, u8) -> PitchAnswer;

@@ -14,11 +14,25 @@ pub struct Lengths<const N: usize> {
 impl<const N: usize> Lengths<N> {
     /// The lengths of this index. In turn each is wrong alone, and each choice of some is.
     pub fn at(index: u64, needed: [usize; N]) -> Self {
-        let random = &mut Random::at(index);
         let wrong = match index % 2 {
             0 => 1 << (index / 2 % N as u64),
             _ => 1 + index / 2 % ((1 << N) - 1),
         };
+        Self::with_wrong(&mut Random::at(index), needed, wrong)
+    }
+
+    /// One of the lengths is wrong, or two are.
+    pub fn one_or_two(random: &mut Random, needed: [usize; N]) -> Self {
+        let [one, other] = [(); 2].map(|()| 1 << random.below(N as u64));
+        let wrong = match random.below(2) {
+            0 => one,
+            _ => one | other,
+        };
+        Self::with_wrong(random, needed, wrong)
+    }
+
+    /// Each length with a bit in `wrong` is another than the needed one.
+    fn with_wrong(random: &mut Random, needed: [usize; N], wrong: u64) -> Self {
         let mut lengths = needed;
         for (place, length) in lengths.iter_mut().enumerate() {
             if wrong >> place & 1 != 0 {
@@ -44,15 +58,20 @@ impl<const N: usize> Lengths<N> {
 /// other lists need.
 fn wrong_length(random: &mut Random, needed: usize) -> usize {
     const LENGTHS: [usize; 7] = [1, 10, 11, 40, 50, 92, 1000];
+    other_than(needed, || match random.below(8) {
+        0 => 0,
+        1 => needed - 1,
+        2 => needed + 1,
+        3 => needed + 256,
+        4 => random.below(300) as usize,
+        _ => LENGTHS[random.below(LENGTHS.len() as u64) as usize],
+    })
+}
+
+/// The first of the lengths drawn that is not the needed one.
+pub fn other_than(needed: usize, mut drawn: impl FnMut() -> usize) -> usize {
     loop {
-        let length = match random.below(8) {
-            0 => 0,
-            1 => needed - 1,
-            2 => needed + 1,
-            3 => needed + 256,
-            4 => random.below(300) as usize,
-            _ => LENGTHS[random.below(LENGTHS.len() as u64) as usize],
-        };
+        let length = drawn();
         if length != needed {
             return length;
         }
@@ -68,7 +87,7 @@ macro_rules! refused {
         ]),+]
     };
 }
-pub(super) use refused;
+pub(crate) use refused;
 
 /// How often each list was the first with a wrong length, alone or before others.
 pub struct Refusals<const N: usize> {
@@ -76,6 +95,8 @@ pub struct Refusals<const N: usize> {
     counts: [[u64; 2]; N],
     /// How often the wrong length was 0, one less, one more, and the same in its low byte.
     lengths: [u64; LENGTHS.len()],
+    /// How often each list was wrong alone: empty, not empty but too short, and too long.
+    alone: [[u64; ALONE.len()]; N],
 }
 
 const LENGTHS: [&str; 4] = [
@@ -85,12 +106,19 @@ const LENGTHS: [&str; 4] = [
     "refusal 1, by a length that is the same in its low byte",
 ];
 
+const ALONE: [&str; 3] = [
+    "refusal 1, by an empty list alone, of the list for which that is rarest",
+    "refusal 1, by a list alone that is too short, of the list for which that is rarest",
+    "refusal 1, by a list alone that is too long, of the list for which that is rarest",
+];
+
 impl<const N: usize> Refusals<N> {
     pub fn new(texts: [[&'static str; 2]; N]) -> Self {
         Self {
             texts,
             counts: [[0; 2]; N],
             lengths: [0; LENGTHS.len()],
+            alone: [[0; ALONE.len()]; N],
         }
     }
 
@@ -109,16 +137,20 @@ impl<const N: usize> Refusals<N> {
         for (count, met) in self.lengths.iter_mut().zip(kinds) {
             *count += u64::from(met);
         }
+        if wrong.len() == 1 {
+            let kind = match length {
+                0 => 0,
+                _ if length < needed => 1,
+                _ => 2,
+            };
+            self.alone[first][kind] += 1;
+        }
     }
 
     pub fn add(&mut self, part: Self) {
-        let counts = self.counts.as_flattened_mut().iter_mut();
-        for (count, part) in counts.zip(part.counts.as_flattened()) {
-            *count += part;
-        }
-        for (count, part) in self.lengths.iter_mut().zip(part.lengths) {
-            *count += part;
-        }
+        add_counts(self.counts.as_flattened_mut(), part.counts.as_flattened());
+        add_counts(&mut self.lengths, &part.lengths);
+        add_counts(self.alone.as_flattened_mut(), part.alone.as_flattened());
     }
 
     /// The texts and counts of the cases. No list comes after the last.
@@ -130,5 +162,20 @@ impl<const N: usize> Refusals<N> {
             .chain(lengths)
             .map(|(&text, &count)| (text, count))
             .collect()
+    }
+
+    /// Each list must be wrong alone in each of these ways, so of each way the list for which it is
+    /// rarest is a case.
+    pub fn rarest_alone(&self) -> [(&'static str, u64); ALONE.len()] {
+        std::array::from_fn(|kind| {
+            let rarest = self.alone.iter().map(|counts| counts[kind]).min();
+            (ALONE[kind], rarest.expect("a list"))
+        })
+    }
+}
+
+fn add_counts(counts: &mut [u64], parts: &[u64]) {
+    for (count, part) in counts.iter_mut().zip(parts) {
+        *count += part;
     }
 }
