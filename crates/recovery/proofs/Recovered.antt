@@ -273,14 +273,13 @@ module _ (upper : UpperLag) where
         (λ w t. placed upper c.after _ v (single x.sets.four p.first.0 p.second.0 4) i.four p.four f.four w)
         (λ v. rest d.after (last_after m d.event) v))))
 
-    frame_by : (s : Search) (a : Told FramePitches) → (frame_answered σ.searcher x).after.searcher ≡ s → (frame_answered σ.searcher x).answer ≡ a →
-        Runs m (from_frame s a)
-    frame_by s (values p) e h =
+    by_answer : (a : Told FramePitches) → (frame_answered σ.searcher x).answer ≡ a → Runs m (from_frame (frame_answered σ.searcher x).after.searcher a)
+    by_answer (values p) h =
         let f = (frame_accepted (frame_state σ.searcher x) x.samples x.sets p h).1 in
-        rw (sym e ∙ f.searcher) (accepted_frame p f.answers)
-    frame_by s (refused n d) e h =
-        let u = ap (λ τ. τ.searcher) (frame_unchanged (frame_state σ.searcher x) x.samples x.sets (ap accepts h)) in
-        rw (sym e ∙ u) (before_run m (frame_refused_step σ σ.searcher n d) _ (λ w t. keeps_refused_frame upper σ m inv n d) (λ v. rest σ m v))
+        rw f.searcher (accepted_frame p f.answers)
+    by_answer (refused n d) h =
+        let u = frame_unchanged (frame_state σ.searcher x) x.samples x.sets (ap accepts h) in
+        rw u (before_run m (frame_refused_step σ σ.searcher n d) _ (λ w t. keeps_refused_frame upper σ m inv n d) (λ v. rest σ m v))
 
   all : (σ : State) (m : Last) (es : List Entry) → InStep upper σ m → Runs m (run σ es)
   unfolding run
@@ -291,7 +290,7 @@ module _ (upper : UpperLag) where
       let t = reset_step σ in before_run m t _ (λ w o. keeps_reset upper σ m inv) (λ v. all t.after none es v)
   all σ m (stray n i ∷ es) inv =
       let t = stray_step σ n i in before_run m t _ (λ w o. keeps_stray upper σ m inv n i o) (λ v. all t.after m es v)
-  all σ m (frame x i ∷ es) inv = frame_by σ m inv x i es (λ τ n v. all τ n es v) _ _ refl refl
+  all σ m (frame x i ∷ es) inv = by_answer σ m inv x i es (λ τ n v. all τ n es v) _ refl
 
   -- one of the claims by itself
   each : (P : Last → State → Event → State → Type 0) → ((m : Last) (s : Step) → Of (Claims upper) m s → Of P m s) →

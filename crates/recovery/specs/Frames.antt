@@ -1,5 +1,5 @@
 -- 02, request 02: 'What a lag reader recovers from such a frame is what it recovers from four single searches; a refused frame hands it nothing.'
-use Rattle.std.specs.Prelude.{◌≡◌, List, [], ◌∷◌, map, ℕ, ℤ, pos, replicate}
+use Rattle.std.specs.Prelude.{◌≡◌, List, [], ◌∷◌, ◌++◌, map, ℕ, ℤ, pos, replicate}
 use Rattle.refusal.specs.Refused.{values, refused}
 use Rattle.pitch.specs.declared.Fraction.TheVariants.{PlusThird}
 use Rattle.pitch.specs.declared.PitchLag.{PitchLag}
@@ -33,23 +33,24 @@ as_searches x i first second =
     ∷ search (single x.sets.four first second 4) i.four
     ∷ []
 
--- an accepted frame: its lags are those of two detector calls, and its steps, so its places, readings and states, those of four single searches with them
-pub record AsSearches (σ : State) (x : FrameInput) (i : Subframes ℕ) (p : FramePitches) : Type 0 where
+-- an accepted frame with any entries behind it: its lags are those of two detector calls, and the steps, so places, readings and states, are those of four
+-- single searches with these lags in its place
+pub record AsSearches (σ : State) (x : FrameInput) (i : Subframes ℕ) (es : List Entry) (p : FramePitches) : Type 0 where
   pub first : (Pitch_ol x.detector (first_half x.samples)).answer ≡ values p.first.0
   pub second : (Pitch_ol (Pitch_ol x.detector (first_half x.samples)).after (second_half x.samples)).answer ≡ values p.second.0
-  pub steps_alike : run σ (frame x i ∷ []) ≡ run σ (as_searches x i p.first.0 p.second.0)
+  pub steps_alike : run σ (frame x i ∷ es) ≡ run σ (as_searches x i p.first.0 p.second.0 ++ es)
 
--- a refused one: one step, which changes nothing and in which nothing is read
-abbrev pub handed_nothing : State → ℕ → ℤ → List Step
-handed_nothing σ n d = record { before = σ; event = frame_refused n d; after = σ } ∷ []
+-- a refused one: a step which changes nothing and in which nothing is read, and then the steps of the entries behind it
+abbrev pub handed_nothing : State → ℕ → ℤ → Step
+handed_nothing σ n d = record { before = σ; event = frame_refused n d; after = σ }
 
--- the statement, from every searcher, reader and detector, on all inputs and whatever arrives
+-- the statement, from every searcher, reader and detector, so for a frame anywhere in a list; on all inputs and whatever arrives
 unfoldable pub FramesAsSearches : Type 0
 FramesAsSearches =
-    (σ : State) (x : FrameInput) (i : Subframes ℕ) →
+    (σ : State) (x : FrameInput) (i : Subframes ℕ) (es : List Entry) →
     let answer = (frame_answered σ.searcher x).answer in
-    ((p : FramePitches) → answer ≡ values p → AsSearches σ x i p)
-    × ((n : ℕ) (d : ℤ) → answer ≡ refused n d → run σ (frame x i ∷ []) ≡ handed_nothing σ n d)
+    ((p : FramePitches) → answer ≡ values p → AsSearches σ x i es p)
+    × ((n : ℕ) (d : ℤ) → answer ≡ refused n d → run σ (frame x i ∷ es) ≡ handed_nothing σ n d ∷ run σ es)
 
 -- ---- by computing, on silence: a refused frame, an accepted one whose third index arrives damaged, and a search of subframe one behind it
 abbrev pub silent_frame : ℕ → FrameInput
