@@ -12,7 +12,7 @@
  *
  * An answer has `number` 0 where the call was accepted. Else it is the number of a refusal,
  * `magnitude` is its detail (with `negative` where it can be below 0), the values are 0, and no
- * list and no state has changed.
+ * list and no state has changed; mr74_serve says what a refused search changes there.
  *
  *   number  what is turned down                                               detail
  *        1  a list has another length than its stage needs                    the first such length
@@ -30,6 +30,9 @@
  *        9  a feed record has a kind above 6                                  the kind
  *       10  a feed ends inside a record's body                                the body bytes present
  *       14  a fraction is above 32767, and its exponent is good               the fraction
+ *       15  a list has no channels, or more than 24                           its length
+ *       16  a channel to be marked is not below the list's length             its number
+ *       17  no channel of the list waits                                      0
  *
  * Where several things are wrong, the first in the order that each function names is given. Lengths
  * are checked in the order of the arguments, those of a struct in the order of its fields, a call's
@@ -72,7 +75,10 @@ enum {
     MR74_PULSE_WORD = 8,
     MR74_KIND = 9,
     MR74_FEED_END = 10,
-    MR74_FRACTION = 14
+    MR74_FRACTION = 14,
+    MR74_CHANNEL_COUNT = 15,
+    MR74_CHANNEL_NUMBER = 16,
+    MR74_NONE_WAITS = 17
 };
 
 /* ---- Target filtering ---- */
@@ -265,6 +271,81 @@ mr74_frame_answer mr74_frame(mr74_pitch_state searcher,
                              mr74_subframe_lists one, mr74_subframe_lists two,
                              mr74_subframe_lists three, mr74_subframe_lists four,
                              int16_t *history_q0, size_t history_length);
+
+/* ---- Channels: a list of them takes turns at the searches ---- */
+
+/* The most channels of a list. */
+#define MR74_CHANNELS 24
+
+/* As `last`: none was served yet. As `channel` of an answer: there is none. */
+#define MR74_NO_CHANNEL SIZE_MAX
+
+/*
+ * A channel: its searcher, and its mark. Calls take any numbers in both. A channel is made with
+ * mr74_fresh_pitch() or mr74_fresh_player() as its searcher, and the mark 0. To reset it, write a
+ * fresh searcher there; the mark may stay.
+ *
+ * The caller keeps the list of the channels, and beside it `last`, the last served number. A fresh
+ * `last` is MR74_NO_CHANNEL; after each mr74_serve it is the `last` of the answer. Channels are
+ * numbered from 0, and any number is taken as `last`.
+ *
+ * There is no lock: while a thread calls mr74_serve or mr74_mark on a list, no other thread may use
+ * that list and its `last`. Threads with lists of their own need not wait for each other.
+ */
+typedef struct {
+    mr74_pitch_state searcher;
+    uint8_t waiting; /* 0, or any other number where the channel waits */
+} mr74_channel;
+
+typedef struct {
+    uint8_t number;
+    uint64_t magnitude;
+    size_t channel; /* the one that is next, or was marked; MR74_NO_CHANNEL where refused */
+} mr74_channel_answer;
+
+typedef struct {
+    uint8_t number;
+    uint64_t magnitude;
+    size_t channel;         /* the one that was served; MR74_NO_CHANNEL by 15 and 17 */
+    size_t last;            /* for the next call */
+    mr74_frame_pitch pitch; /* what is sent, and the lag; zeros where refused */
+} mr74_service_answer;
+
+/*
+ * Marks a channel: writes 1 as its mark, and nothing else. One that waits already goes on waiting,
+ * for one turn. Refuses by 15 and 16.
+ */
+mr74_channel_answer mr74_mark(mr74_channel *channels, size_t channel_count, size_t channel);
+
+/*
+ * The channel that mr74_serve would serve: the first that waits after `last`, going round, so that
+ * `last` itself comes at the end. Where `last` is not below the list's length, it looks from
+ * channel 0. Nothing is written. Refuses by 15 and 17.
+ */
+mr74_channel_answer mr74_next(const mr74_channel *channels, size_t channel_count, size_t last);
+
+/*
+ * A service step: one mr74_pitch_search, with the lists and numbers given, by the searcher of the
+ * channel that mr74_next tells. The inputs of a search are a channel's own, so ask mr74_next first.
+ * The mark of that channel becomes 0, its searcher is the one after the search, and `last` in the
+ * answer is its number. No other record is written.
+ *
+ * Refuses by 15 and 17, before the search's inputs are looked at: no channel is served, nothing has
+ * changed, and `last` in the answer is the one that was given. Refuses by 1, 2, 3 and 4 as
+ * mr74_pitch_search does: then too the channel was served, with its mark 0 and `last` its number,
+ * and its searcher stays as it was.
+ *
+ * While the list keeps its length, and only mr74_serve and mr74_mark touch it and `last`:
+ *   - a channel that waits is served within as many steps as the list has channels, whichever
+ *     others are marked between them,
+ *   - what a channel's searches answer depends on the searcher that it started with and on the
+ *     inputs and subframe numbers of its own steps, in their order.
+ */
+mr74_service_answer mr74_serve(mr74_channel *channels, size_t channel_count, size_t last,
+                               const int16_t *excitation_q0, size_t excitation_length,
+                               const int16_t *target_q0, size_t target_length,
+                               const int16_t *impulse_q12, size_t impulse_length,
+                               uint16_t first_lag, uint16_t second_lag, uint8_t subframe);
 
 /* ---- Pulses ---- */
 
@@ -476,6 +557,11 @@ MR74_LAYOUT(sizeof(mr74_frame_pitch) == 6 && offsetof(mr74_frame_pitch, samples)
 MR74_LAYOUT(sizeof(mr74_frame_answer) == 56 && offsetof(mr74_frame_answer, first_lag) == 16 &&
             offsetof(mr74_frame_answer, pitches) == 20 &&
             offsetof(mr74_frame_answer, searcher) == 44);
+MR74_LAYOUT(sizeof(mr74_channel) == 10 && offsetof(mr74_channel, waiting) == 8);
+MR74_LAYOUT(sizeof(mr74_channel_answer) == 24 && offsetof(mr74_channel_answer, channel) == 16);
+MR74_LAYOUT(sizeof(mr74_service_answer) == 40 && offsetof(mr74_service_answer, channel) == 16 &&
+            offsetof(mr74_service_answer, last) == 24 &&
+            offsetof(mr74_service_answer, pitch) == 32);
 MR74_LAYOUT(sizeof(mr74_sharpening_gain) == 2);
 MR74_LAYOUT(sizeof(mr74_pulses_answer) == 24);
 MR74_LAYOUT(sizeof(mr74_places_answer) == 48);

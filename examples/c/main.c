@@ -7,6 +7,7 @@
  * searcher.
  */
 #include "mr74.h"
+#include "sound.h"
 
 #include <stdio.h>
 #include <string.h>
@@ -178,7 +179,7 @@ static void silence(void)
 /* A pulse every 57 samples, and a filter with one pole. */
 static void voiced(void)
 {
-    enum { PERIOD = 57, PAST = MR74_EXCITATION - MR74_SUBFRAME };
+    enum { PERIOD = 57 };
     const int16_t filter[MR74_COEFFICIENTS] = {4096, -3200};
     const int16_t past[MR74_ORDER] = {0};
     int16_t half_frame[MR74_HALF_FRAME], speech[MR74_SPEECH], excitation[MR74_EXCITATION];
@@ -278,29 +279,14 @@ static void frame(state *kept, const int16_t samples[MR74_FRAME], const mr74_sub
     print_searcher(&kept->searcher);
 }
 
-/* A frame of a sound with a pulse every so many samples, logged with 154 words of its past. */
+/* A logged frame of a sound with a pulse every so many samples. */
 static void logged(state *kept, int period)
 {
-    enum { PAST = MR74_EXCITATION - MR74_SUBFRAME, SOUND = PAST + MR74_FRAME };
-    int16_t pulses[SOUND], sound[SOUND], impulse[MR74_SUBFRAME];
-    int16_t sample = 0, response = 4096;
-    for (int i = 0; i < SOUND; i++) {
-        pulses[i] = (i - PAST) % period == 0 ? 8000 : 0;
-        sample = (int16_t)(sample * 3 / 4 + pulses[i]);
-        sound[i] = sample;
-    }
-    for (int i = 0; i < MR74_SUBFRAME; i++) {
-        impulse[i] = response;
-        response = (int16_t)(response * 3 / 4);
-    }
+    sound heard = sound_of(period);
     mr74_subframe_lists had[4];
-    for (int i = 0; i < 4; i++) {
-        mr74_subframe_lists lists = {pulses + MR74_SUBFRAME * i,       MR74_EXCITATION,
-                                     sound + PAST + MR74_SUBFRAME * i, MR74_SUBFRAME,
-                                     impulse,                          MR74_SUBFRAME};
-        had[i] = lists;
-    }
-    frame(kept, sound + PAST, had);
+    for (int i = 0; i < 4; i++)
+        had[i] = lists_of(&heard, i + 1);
+    frame(kept, heard.samples + PAST, had);
 }
 
 /* A player's frame, and one whose second half has an open-loop lag that a player refuses. */

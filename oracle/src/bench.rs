@@ -1,7 +1,9 @@
 //! The time of every stage and of the program `select`, as a ratio to the published Rust's on the
 //! same feeds in the same run. Above 1 the library is the slower one. A frame has a ratio to the
-//! library's own six calls too.
+//! library's own six calls too, and the dispatcher to the library's own searches. Below the table
+//! is how many calls one core carries.
 
+mod dispatch;
 mod frames;
 mod programs;
 pub mod rival;
@@ -43,16 +45,22 @@ fn feeds() -> io::Result<[Feed; 3]> {
 struct Row {
     name: String,
     ratios: Vec<f64>,
-    held: bool,
+    /// The greatest ratio that is allowed, in hundredths.
+    most: Option<f64>,
 }
 
 impl Row {
     /// A stage, or a program's work, which must not be slower than the Rust's.
     fn held(name: &str, ratios: Vec<f64>) -> Self {
+        Self::within(name, 100.0, ratios)
+    }
+
+    /// What may take so many hundredths of the other side's time.
+    fn within(name: &str, most: f64, ratios: Vec<f64>) -> Self {
         Self {
             name: name.to_string(),
             ratios,
-            held: true,
+            most: Some(most),
         }
     }
 
@@ -61,12 +69,13 @@ impl Row {
         Self {
             name: format!("({name})"),
             ratios,
-            held: false,
+            most: None,
         }
     }
 }
 
-/// Prints the table, and gives how many ratios that are held are above 1. Those in brackets are shown only.
+/// Prints the table and how many calls one core carries, and gives how many ratios are above what
+/// is allowed. Those in brackets are shown only.
 pub fn report() -> io::Result<usize> {
     const WIDTH: usize = 34;
     let mut slow = 0;
@@ -74,7 +83,7 @@ pub fn report() -> io::Result<usize> {
         print!("{:WIDTH$}", row.name);
         for ratio in row.ratios {
             // Of two digits, as it is shown.
-            let above = row.held && (100.0 * ratio).round() > 100.0;
+            let above = row.most.is_some_and(|most| (100.0 * ratio).round() > most);
             slow += usize::from(above);
             print!("{ratio:>11.2}{}", if above { '*' } else { ' ' });
         }
@@ -86,8 +95,17 @@ pub fn report() -> io::Result<usize> {
         print!("{:>11} ", feed.name);
     }
     println!();
-    stages::rows(&feeds).into_iter().for_each(&mut print);
+    let stages = stages::measured(&feeds);
+    stages.rows.into_iter().for_each(&mut print);
     programs::rows(&feeds)?.into_iter().for_each(&mut print);
+    println!("calls that one core carries");
+    for (side, name) in ["the library", "the Rust"].into_iter().enumerate() {
+        print!("{name:WIDTH$}");
+        for carried in &stages.carried {
+            print!("{:>11} ", carried[side]);
+        }
+        println!();
+    }
     Ok(slow)
 }
 

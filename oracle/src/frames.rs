@@ -8,7 +8,7 @@ mod frame;
 mod numbers;
 
 pub use chains::{Chain, Feed, Step, logged};
-pub use frame::{Frame, States};
+pub use frame::{Frame, REFUSED, States, pitch};
 
 use crate::{
     compare::{Function, Line, in_threads},

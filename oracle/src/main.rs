@@ -2,8 +2,9 @@
 //!
 //! Every input is compared where a function has at most 2^32 of them; of the others the
 //! combinations of the ends of the argument types and a fixed pseudo-random sample. The pitch search
-//! and the detector have a state, so they are compared in chains of calls. Where a comparison is
-//! made of words that were drawn, the cases that it must meet are counted.
+//! and the detector have a state, so they are compared in chains of calls, and the dispatcher's list
+//! of channels in runs of calls. Where a comparison is made of words that were drawn, the cases that
+//! it must meet are counted.
 
 mod adopted;
 mod bench;
@@ -13,6 +14,7 @@ mod cases;
 mod chains;
 mod compare;
 mod counts;
+mod dispatch;
 mod feed;
 mod filtering;
 mod frames;
@@ -97,7 +99,7 @@ fn main() -> ExitCode {
 
 fn report_bench() -> Result<ExitCode, String> {
     let slow = bench::report().map_err(|error| error.to_string())?;
-    println!("{slow} above 1");
+    println!("{slow} above what is allowed");
     Ok(match slow {
         0 => ExitCode::SUCCESS,
         _ => ExitCode::from(DIFFERENT),
@@ -119,6 +121,7 @@ fn compare_functions(names: &[&str]) -> Result<ExitCode, String> {
     functions.extend(reader::functions());
     functions.extend(search::functions());
     functions.extend(frames::functions());
+    functions.extend(dispatch::functions());
     functions.extend(recovery::functions());
     functions.extend(player::functions());
     functions.extend(open_loop::functions());

@@ -4,13 +4,14 @@
 //! Nothing checks the declarations against the library's source; they repeat its interface.
 
 pub use mr74::entries::{
-    END, FrameAnswer, FramePitch, GainAnswer, LengthAnswer, Logarithm, OpenLoopAnswer, PitchAnswer,
-    PitchGainAnswer, PitchState, PlacesAnswer, PowerAnswer, PulsesAnswer, SharpeningGain,
-    StepAnswer, convolve, fresh_pitch, fresh_player, log2, open_loop, pow2, read_lag, read_pulses,
-    residual,
+    ChannelAnswer, ChannelState, END, FrameAnswer, FramePitch, GainAnswer, LengthAnswer, Logarithm,
+    NO_CHANNEL, OpenLoopAnswer, PitchAnswer, PitchGainAnswer, PitchState, PlacesAnswer,
+    PowerAnswer, PulsesAnswer, ServiceAnswer, SharpeningGain, StepAnswer, convolve, fresh_pitch,
+    fresh_player, log2, mark, next, open_loop, pow2, read_lag, read_pulses, residual,
 };
 
 use mr74::entries::{self, SubframeLists};
+use std::slice;
 
 /// A 32-bit number as its high word and its 15 low bits.
 #[repr(C)]
@@ -114,6 +115,37 @@ macro_rules! searchings {
     )+};
 }
 searchings!(pitch_search, preview);
+
+/// Serves the next waiting channel with these inputs of a search.
+pub fn serve(
+    channels: &mut [ChannelState],
+    last: usize,
+    [excitation, target, impulse_q12]: [&[i16]; 3],
+    [first, second]: [u16; 2],
+    subframe: u8,
+) -> ServiceAnswer {
+    entries::serve(
+        channels,
+        last,
+        excitation,
+        target,
+        impulse_q12,
+        first,
+        second,
+        subframe,
+    )
+}
+
+/// A channel record as it lies in memory, with the byte behind the mark.
+pub type RecordWords = [u16; 5];
+
+/// The channels that lie in these words.
+pub fn channels(words: &mut [RecordWords]) -> &mut [ChannelState] {
+    const _: () = assert!(size_of::<ChannelState>() == size_of::<RecordWords>());
+    const _: () = assert!(align_of::<ChannelState>() == align_of::<RecordWords>());
+    // SAFETY: both have one size and alignment, and any words are a channel.
+    unsafe { slice::from_raw_parts_mut(words.as_mut_ptr().cast(), words.len()) }
+}
 
 /// Reads the samples and each subframe's excitation, target and impulse response. The detector's
 /// old words are lent, and updated there.

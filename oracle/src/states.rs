@@ -24,10 +24,10 @@ pub const INDEXES: [u8; 4] = [0, 31, 32, 255];
 
 /// The open-loop lags of a search: both in the range of each upper lag, one of them outside, or one
 /// of them above a player's.
-const LAGS: [[u16; 2]; 5] = [[80, 60], [19, 60], [80, 144], [121, 120], [120, 121]];
+pub const LAGS: [[u16; 2]; 5] = [[80, 60], [19, 60], [80, 144], [121, 120], [120, 121]];
 
 /// The list that has a word too few.
-const SHORT: [Option<usize>; 4] = [None, Some(0), Some(1), Some(2)];
+pub const SHORT: [Option<usize>; 4] = [None, Some(0), Some(1), Some(2)];
 
 pub fn functions() -> [Function; 4] {
     [
@@ -115,7 +115,7 @@ where
 }
 
 /// How often these upper numbers are accepted and refused, at the expected numbers.
-fn uppers_met<I, F>(inputs: &Inputs<F>, call: impl Fn(I) -> (PitchState, PitchAnswer)) -> Line
+pub fn uppers_met<I, F>(inputs: &Inputs<F>, call: impl Fn(I) -> (PitchState, PitchAnswer)) -> Line
 where
     F: Fn(u64) -> Option<I>,
 {
@@ -318,7 +318,7 @@ where
 }
 
 /// Lists that a search accepts.
-fn drawn() -> Call {
+pub fn drawn() -> Call {
     let random = &mut Random::at(0);
     let excitation: [i16; EXCITATION] = quiet(random, 3);
     let target: [i16; SUBFRAME] = quiet(random, 3);
@@ -331,15 +331,20 @@ fn drawn() -> Call {
     }
 }
 
+/// The call's lists, of which the one at this place has a word too few.
+pub fn lists(call: &Call, short: Option<usize>) -> [&[i16]; 3] {
+    let lists = [&call.excitation, &call.target, &call.impulse];
+    let mut place = 0;
+    lists.map(|list| {
+        let short = short == Some(place);
+        place += 1;
+        &list[usize::from(short)..]
+    })
+}
+
 impl Asked {
     fn ours(&self, searching: Searching, call: &Call) -> PitchAnswer {
-        let lists = [&call.excitation, &call.target, &call.impulse];
-        let mut place = 0;
-        let [excitation, target, impulse] = lists.map(|list| {
-            let short = self.short == Some(place);
-            place += 1;
-            &list[usize::from(short)..]
-        });
+        let [excitation, target, impulse] = lists(call, self.short);
         let Self { state, lags, .. } = *self;
         searching(state, excitation, target, impulse, lags, self.subframe)
     }

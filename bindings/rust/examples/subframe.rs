@@ -4,6 +4,8 @@
 //! handset; and a tuning bench, which searches whole logged frames: the same lines as
 //! examples/c/main.c prints.
 
+mod sound;
+
 use mr74::{
     Refusal, SUBFRAME_SAMPLES,
     codebook::{
@@ -21,9 +23,15 @@ use mr74::{
         search::{EXCITATION_SAMPLES, OpenLoopLag, Search, SearchedPitch, Subframe, convolve},
     },
 };
+use sound::{PAST, Sound, words_from};
 
 const HALF_FRAME: usize = 80;
-const PAST: usize = EXCITATION_SAMPLES - SUBFRAME_SAMPLES;
+const SUBFRAMES: [Subframe; 4] = [
+    Subframe::One,
+    Subframe::Two,
+    Subframe::Three,
+    Subframe::Four,
+];
 
 type Words = [i16; SUBFRAME_SAMPLES];
 
@@ -121,12 +129,9 @@ impl State {
             Ok(sent) => {
                 let [first, second] = sent.open_loop.map(OpenLoopLag::samples);
                 println!("frame {first} {second}");
-                for (SearchedPitch { lag, index }, subframe) in sent.pitches.into_iter().zip([
-                    Subframe::One,
-                    Subframe::Two,
-                    Subframe::Three,
-                    Subframe::Four,
-                ]) {
+                for (SearchedPitch { lag, index }, subframe) in
+                    sent.pitches.into_iter().zip(SUBFRAMES)
+                {
                     let thirds = lag.fraction().thirds();
                     println!("pitch {index} {} {thirds}", lag.samples());
                     let read = self.reader.read(subframe, index)?;
@@ -141,36 +146,12 @@ impl State {
         Ok(())
     }
 
-    /// A frame of a sound with a pulse every so many samples, logged with 154 words of its past.
+    /// A logged frame of a sound with a pulse every so many samples.
     fn logged(&mut self, period: usize) -> Result<(), Refusal> {
-        const SOUND: usize = PAST + FRAME_SAMPLES;
-        let pulses: [i16; SOUND] = std::array::from_fn(|i| {
-            let at_pulse = i.abs_diff(PAST).is_multiple_of(period);
-            if at_pulse { 8000 } else { 0 }
-        });
-        let mut sample = 0;
-        let sound = pulses.map(|pulse| {
-            sample = sample * 3 / 4 + pulse;
-            sample
-        });
-        let mut response = 4096;
-        let impulse: Words = std::array::from_fn(|_| {
-            let word = response;
-            response = response * 3 / 4;
-            word
-        });
-        let had = std::array::from_fn(|i| SubframeInputs {
-            excitation: words_from(&pulses, SUBFRAME_SAMPLES * i),
-            target: words_from(&sound, PAST + SUBFRAME_SAMPLES * i),
-            impulse_q12: &impulse,
-        });
-        self.frame(words_from(&sound, PAST), had)
+        let heard = Sound::of(period);
+        let had = SUBFRAMES.map(|subframe| heard.inputs(subframe));
+        self.frame(words_from(&heard.samples, PAST), had)
     }
-}
-
-/// So many words of a longer list, from a place on.
-fn words_from<const N: usize>(words: &[i16], place: usize) -> &[i16; N] {
-    words[place..].first_chunk().expect("as many words")
 }
 
 /// The pulses of a subframe, sent and read back; the filtered ones are for the gain row.

@@ -1,10 +1,13 @@
 //! The library's functions as they are: lists of any length, numbers of any value, and answers
 //! whose `number` is 0 where the call was accepted. Else it is the refusal's, `magnitude` is its
 //! detail (below 0 where `negative` is not 0), the values are 0, no list has been written, and the
-//! states are those that were given. include/mr74.h says what each list is.
+//! states are those that were given; `serve` differs where the search of a served channel is
+//! refused. include/mr74.h says what each list is.
 //!
 //! All unsafe code is here. Nothing checks these declarations against the library's source; they
 //! repeat its interface, and the oracle compares every one of them through this module.
+
+use std::slice;
 
 macro_rules! answers {
     ($($(#[$meta:meta])* $name:ident { $($field:ident: $type:ty,)* })*) => {$(
@@ -50,6 +53,21 @@ answers! {
         second_lag: u16,
         pitches: [FramePitch; 4],
         searcher: PitchState,
+    }
+    /// A channel: its searcher's numbers, and its mark. It waits where the mark is not 0: `mark`
+    /// writes 1, and `serve` writes 0.
+    ChannelState { searcher: PitchState, waiting: u8, }
+    /// The channel that is next or was marked, `NO_CHANNEL` where refused.
+    ChannelAnswer { number: u8, magnitude: u64, channel: usize, }
+    /// The channel that was served, the last served number for the next call, and what is sent. By
+    /// 15 and 17 no channel is served: it is `NO_CHANNEL`, and `last` is the one that was given. By
+    /// 1 to 4 the served channel's search is refused.
+    ServiceAnswer {
+        number: u8,
+        magnitude: u64,
+        channel: usize,
+        last: usize,
+        pitch: FramePitch,
     }
     PulsesAnswer { number: u8, magnitude: u64, positions: u16, signs: u16, }
     PlacesAnswer {
@@ -125,6 +143,28 @@ pub struct SharpeningGain(pub i16);
 
 /// What stands for a record's kind where the feed has ended.
 pub const END: u8 = 7;
+
+/// The last served number where none was served yet, and what stands for a channel where there is
+/// none.
+pub const NO_CHANNEL: usize = usize::MAX;
+
+/// A channel of `pitch::dispatch`: the numbers of a `Search`, and 0 or 1 as its mark.
+#[repr(transparent)]
+#[derive(Debug, Clone, PartialEq, Eq)]
+pub struct Channel(pub(crate) ChannelState);
+
+impl Channel {
+    pub(crate) fn numbers(channels: &[Self]) -> &[ChannelState] {
+        // SAFETY: a channel has the layout of its numbers, and the list is borrowed as lent.
+        unsafe { slice::from_raw_parts(channels.as_ptr().cast(), channels.len()) }
+    }
+
+    /// Only the library writes there: 0, 1 and what a search keeps.
+    pub(crate) fn numbers_mut(channels: &mut [Self]) -> &mut [ChannelState] {
+        // SAFETY: as above.
+        unsafe { slice::from_raw_parts_mut(channels.as_mut_ptr().cast(), channels.len()) }
+    }
+}
 
 /// What the encoder had at a subframe, lists of any length.
 #[derive(Debug, Clone, Copy, PartialEq, Eq)]
@@ -310,6 +350,25 @@ entries! {
         sets: [SubframeLists; 4],
         history_q0: &mut [i16]
     ) -> FrameAnswer;
+
+    /// A search by the first waiting channel after the last one served, going round; from the first
+    /// channel on where `last` is not below the list's length. Its mark is cleared, and it counts
+    /// as served, even where the search is refused.
+    fn serve as mr74_serve(
+        channels: &mut [ChannelState],
+        last: usize,
+        excitation: &[i16],
+        target: &[i16],
+        impulse_q12: &[i16],
+        first: u16,
+        second: u16,
+        subframe: u8
+    ) -> ServiceAnswer;
+
+    /// The channel that `serve` would take.
+    fn next as mr74_next(channels: &[ChannelState], last: usize) -> ChannelAnswer;
+
+    fn mark as mr74_mark(channels: &mut [ChannelState], channel: usize) -> ChannelAnswer;
 
     fn pulse_search as mr74_pulse_search(
         target: &[i16],

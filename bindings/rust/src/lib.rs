@@ -3,7 +3,8 @@
 //! Modules, names and arguments are those of the original, below `codec::mr74`, but for the
 //! sharpening gain's type and for `quantize`, which takes the prediction; README.md has the lines
 //! that change there. No call panics: what is turned down is a [`Refusal`], and then nothing has
-//! changed. [`entries`] has the library's functions as they are, for lists of any length.
+//! changed; where the search of a served channel is turned down, the channel's turn is over.
+//! [`entries`] has the library's functions as they are, for lists of any length.
 
 #![deny(unsafe_code)]
 

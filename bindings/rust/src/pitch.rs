@@ -1,5 +1,6 @@
 //! Lags, and the lag reader.
 
+pub mod dispatch;
 pub mod frame;
 pub mod open_loop;
 pub mod search;

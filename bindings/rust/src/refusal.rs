@@ -1,22 +1,22 @@
 use std::{error::Error, fmt};
 
-/// What is turned down, by its number, 1 to 10 or 14, and one detail.
+/// What is turned down, by its number, 1 to 10 or 14 to 17, and one detail.
 #[derive(Debug, Clone, Copy, PartialEq, Eq)]
 pub struct Refusal {
     pub number: u8,
-    pub detail: i64,
+    pub detail: i128,
 }
 
 impl Refusal {
-    /// The refusal of an answer, unless its number is 0. A detail is a list's length or fewer bits.
+    /// The refusal of an answer, unless its number is 0.
     pub(crate) fn check(number: u8, magnitude: u64) -> Result<(), Self> {
         Self::check_signed(number, 0, magnitude)
     }
 
     pub(crate) fn check_signed(number: u8, negative: u8, magnitude: u64) -> Result<(), Self> {
         let detail = match negative {
-            0 => magnitude as i64,
-            _ => -(magnitude as i64),
+            0 => magnitude.into(),
+            _ => -i128::from(magnitude),
         };
         match number {
             0 => Ok(()),
@@ -61,6 +61,9 @@ impl fmt::Display for Refusal {
             9 => write!(f, "feed record of kind {detail}, above 6"),
             10 => write!(f, "the feed ends after {detail} bytes of a record's body"),
             14 => write!(f, "fraction {detail} is above 32767"),
+            15 => write!(f, "a list of {detail} channels is not one of 1 to 24"),
+            16 => write!(f, "channel {detail} is not in the list"),
+            17 => write!(f, "no channel waits"),
             _ => write!(f, "detail {detail}"),
         }
     }

@@ -151,7 +151,7 @@ impl Logged {
     }
 }
 
-fn refusal(number: u8, detail: i64) -> Refusal {
+fn refusal(number: u8, detail: i128) -> Refusal {
     Refusal { number, detail }
 }
 

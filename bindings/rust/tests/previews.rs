@@ -1,66 +1,22 @@
 //! A preview answers as the search on a copy does, refusals too, and the searcher stays as it is.
 
 mod inputs;
+mod searches;
 
 use inputs::{Drawn, SILENCE, SILENT_EXCITATION, SUBFRAMES, on_silence};
 use mr74::{
-    Refusal, SUBFRAME_SAMPLES,
+    Refusal,
     entries::{self, PitchAnswer, PitchState},
     pitch::{
         UpperLag,
-        search::{EXCITATION_SAMPLES, OpenLoopLag, Search, SearchedPitch, Subframe},
+        search::{Search, SearchedPitch, Subframe},
     },
 };
+use searches::Inputs;
 
-type Words = [i16; SUBFRAME_SAMPLES];
-
-/// What is searched in a subframe.
-struct Inputs {
-    excitation: [i16; EXCITATION_SAMPLES],
-    target: Words,
-    impulse: Words,
-    lags: [OpenLoopLag; 2],
-    subframe: Subframe,
-}
-
-impl Inputs {
-    /// The lags are 20 to 143. One subframe in four is drawn, the others are as expected.
-    fn drawn(drawn: &mut Drawn, expected: Subframe) -> Self {
-        Self {
-            excitation: drawn.words(),
-            target: drawn.words(),
-            impulse: drawn.words(),
-            lags: [(); 2].map(|()| lag(20 + drawn.below(124) as u16)),
-            subframe: match drawn.below(4) {
-                0 => SUBFRAMES[drawn.below(4) as usize],
-                _ => expected,
-            },
-        }
-    }
-
-    fn silent(lags: [u16; 2], subframe: Subframe) -> Self {
-        Self {
-            excitation: SILENT_EXCITATION,
-            target: SILENCE,
-            impulse: SILENCE,
-            lags: lags.map(lag),
-            subframe,
-        }
-    }
-
-    fn preview(&self, searcher: &Search) -> Result<SearchedPitch, Refusal> {
-        let (target, impulse) = (&self.target, &self.impulse);
-        searcher.preview(&self.excitation, target, impulse, self.lags, self.subframe)
-    }
-
-    fn search(&self, searcher: &mut Search) -> Result<SearchedPitch, Refusal> {
-        let (target, impulse) = (&self.target, &self.impulse);
-        searcher.search(&self.excitation, target, impulse, self.lags, self.subframe)
-    }
-}
-
-fn lag(samples: u16) -> OpenLoopLag {
-    OpenLoopLag::try_new(samples).expect("a lag")
+fn preview(inputs: &Inputs, searcher: &Search) -> Result<SearchedPitch, Refusal> {
+    let (excitation, target, impulse) = (&inputs.excitation, &inputs.target, &inputs.impulse);
+    searcher.preview(excitation, target, impulse, inputs.lags, inputs.subframe)
 }
 
 #[test]
@@ -80,7 +36,7 @@ fn previews(mut searcher: Search, seed: u32) -> [usize; 3] {
     for _ in 0..CALLS {
         let before = searcher.clone();
         let inputs = Inputs::drawn(&mut drawn, before.next);
-        let shown = inputs.preview(&searcher);
+        let shown = preview(&inputs, &searcher);
         assert_eq!(searcher, before);
 
         let mut copy = before.clone();
@@ -97,10 +53,10 @@ fn previews(mut searcher: Search, seed: u32) -> [usize; 3] {
         // Another preview, and the same one once more, change nothing for the search.
         let others = Inputs::drawn(&mut drawn, before.next);
         assert_eq!(
-            others.preview(&searcher),
+            preview(&others, &searcher),
             others.search(&mut before.clone())
         );
-        assert_eq!(inputs.preview(&searcher), shown);
+        assert_eq!(preview(&inputs, &searcher), shown);
         assert_eq!(searcher, before);
         assert_eq!(inputs.search(&mut searcher), shown);
         assert_eq!(searcher, copy);
@@ -119,7 +75,7 @@ fn an_index_is_shown_and_then_sent() -> Result<(), Refusal> {
         (Subframe::Four, 27, 98),
     ] {
         let inputs = Inputs::silent([80, 100], subframe);
-        assert_eq!(inputs.preview(&searcher)?.index, index);
+        assert_eq!(preview(&inputs, &searcher)?.index, index);
         // Of the window before, until the search.
         assert_eq!(searcher.start, start);
         assert_eq!(inputs.search(&mut searcher)?.index, index);
@@ -137,13 +93,13 @@ fn previews_are_refused_by_3_and_4() {
             searcher.next = next;
             for subframe in SUBFRAMES {
                 let before = searcher.clone();
-                let shown = Inputs::silent([120, 20], subframe).preview(&searcher);
+                let shown = preview(&Inputs::silent([120, 20], subframe), &searcher);
                 match subframe == next {
                     true => assert!(shown.is_ok()),
                     false => assert_eq!(shown, refusal(4, next.number().into())),
                 }
                 // A player's, before the subframe is looked at.
-                let shown = Inputs::silent([20, 121], subframe).preview(&searcher);
+                let shown = preview(&Inputs::silent([20, 121], subframe), &searcher);
                 match (searcher.upper, subframe == next) {
                     (UpperLag::Player, _) => assert_eq!(shown, refusal(3, 121)),
                     (UpperLag::Handset, true) => assert!(shown.is_ok()),

@@ -18,7 +18,7 @@ use mr74::{
 
 const SILENCE: [i16; SUBFRAME_SAMPLES] = [0; SUBFRAME_SAMPLES];
 
-fn refusal(number: u8, detail: i64) -> Refusal {
+fn refusal(number: u8, detail: i128) -> Refusal {
     Refusal { number, detail }
 }
 
@@ -302,6 +302,13 @@ fn refusals_say_what_is_wrong() {
         ),
         (10, 2, "the feed ends after 2 bytes of a record's body"),
         (14, 32768, "fraction 32768 is above 32767"),
+        (15, 25, "a list of 25 channels is not one of 1 to 24"),
+        (
+            16,
+            usize::MAX as i128,
+            "channel 18446744073709551615 is not in the list",
+        ),
+        (17, 0, "no channel waits"),
     ] {
         let said = refusal(number, detail).to_string();
         assert_eq!(said, format!("MR74 refusal {number}: {words}"));

@@ -1,13 +1,13 @@
 -- What an accepted frame tells of its parts, and that a refused one leaves its state as it was.
 use mathlib.Core.Path.{◌≡◌, refl, ap, ◌∙◌}
-use mathlib.Core.Bool.{Bool, true, false}
-use mathlib.Core.List.{List, [], ◌∷◌}
+use mathlib.Core.Bool.{false}
+use mathlib.Core.List.{List}
 use Prim.Native.Nat.{ℕ}
-use native.Mathlib.Omega.{arith}
 use lib.IntN.{ℤ}
-use Rattle.refusal.specs.Refused.{Told, values, refused, accepts, and_then}
-use Rattle.refusal.specs.Checks.{Check, Outcome, checked, whole_or_nothing}
+use Rattle.refusal.specs.Refused.{values, accepts}
+use Rattle.refusal.specs.Checks.{Outcome}
 use Rattle.refusal.proofs.Checkings.{Passes, value_or}
+use Rattle.refusal.proofs.Answers.{follows, checked_values, whole, nothing}
 use Rattle.pitch_search.specs.declared.Search.{Search}
 use Rattle.pitch_search.specs.declared.SearchedPitch.{SearchedPitch}
 use Rattle.open_loop.specs.declared.Detector.{Detector}
@@ -15,37 +15,6 @@ use Rattle.open_loop.specs.Detectors.{Pitch_ol}
 use Rattle.frame.specs.declared.FramePitches.{FramePitches}
 use Rattle.frame.specs.declared.FrameState.{FrameState}
 use Rattle.frame.specs.Frames.{Lists, Subframes, first_half, second_half, four_searches, pitches, all_four, with_lags, parts, frame_checks, frame_of}
-
-pub no_values : {A X : Type 0} {n : ℕ} {d : ℤ} {a : A} → refused n d ≡ values a → X
-no_values e = let z : ◌≡◌ {A = ℕ} 0 1 = cc in absurd (omega arith)
-
--- the values of one answer and of what follows it
-record Follows {A B : Type 0} (t : Told A) (next : A → Told B) (b : B) : Type 0 where
-  value : A
-  told : t ≡ values value
-  rest : next value ≡ values b
-
-follows : {A B : Type 0} (t : Told A) (next : A → Told B) (b : B) → and_then t next ≡ values b → Follows t next b
-follows (values a) next b e = record { value = a; told = refl; rest = e }
-follows (refused n d) next b e = no_values e
-
--- values behind checks: all pass, and they are those of what is checked
-checked_values : {A : Type 0} (t : Told A) (w : A) (cs : List Check) → checked cs refused t ≡ values w → Passes cs × (t ≡ values w)
-checked_values t w [] e = (tt, e)
-checked_values t w (c ∷ cs) e = go c.passes refl (checked_values t w cs)
-  where
-    go : (b : Bool) → c.passes ≡ b → (checked cs refused t ≡ values w → Passes cs × (t ≡ values w)) → Passes (c ∷ cs) × (t ≡ values w)
-    go true q rest = let r = rest (rw q at e) in ((q, r.0), r.1)
-    go false q rest = no_values (rw q at e)
-
-module _ {A S : Type 0} (s : S) where
-  whole : (t : Told (A × S)) (a : A) → (whole_or_nothing s t).answer ≡ values a → t ≡ values (a, (whole_or_nothing s t).after)
-  whole (values (b, after)) a e = ap (λ c. values (c, after)) (ap (value_or a) e)
-  whole (refused n d) a e = no_values e
-
-  nothing : (t : Told (A × S)) → accepts (whole_or_nothing s t).answer ≡ false → (whole_or_nothing s t).after ≡ s
-  nothing (values (b, after)) e = let z : ◌≡◌ {A = ℕ} 0 1 = cc in absurd (omega arith)
-  nothing (refused n d) e = refl
 
 -- four answers
 pub record FourAnswers {A S : Type 0} (o : Subframes (Outcome A S)) (p : Subframes A) : Type 0 where

@@ -1,6 +1,6 @@
 -- The statement on refused frames, and the computed frames.
 use mathlib.Core.Path.{◌≡◌, refl, sym, ap, ◌∙◌}
-use mathlib.Core.Bool.{Bool, true, false, cond}
+use mathlib.Core.Bool.{true}
 use mathlib.Core.List.{List, [], ◌∷◌}
 use mathlib.Core.Logic.{inl, inr}
 use Prim.Native.Nat.{ℕ, ◌≤◌}
@@ -10,10 +10,10 @@ use lib.IntN.{ℤ}
 use lib.ListN.{length, drop}
 use borrow.Author.Tests.{eqb-true, le-leb}
 use Rattle.std.proofs.lemmas.List.{length-take-le, length-drop}
-use Rattle.fixed.proofs.Clips.{contradiction}
-use Rattle.refusal.specs.Refused.{Told, values, refused, accepts, put, and_then}
-use Rattle.refusal.specs.Checks.{Check, Outcome, checked, unless_refused, whole_or_nothing, within, length_is}
+use Rattle.refusal.specs.Refused.{values, accepts, put}
+use Rattle.refusal.specs.Checks.{Check, Outcome, within, length_is}
 use Rattle.refusal.proofs.Checkings.{Passes, value_or, passed}
+use Rattle.refusal.proofs.Answers.{no_values, accepts_next, by_checks, Numbered, numbered, without_state}
 use Rattle.pitch.specs.declared.Subframe.{Subframe}
 use Rattle.pitch.specs.declared.Subframe.TheVariants.{One, Two, Three, Four}
 use Rattle.pitch.specs.declared.UpperLag.TheVariants.{Handset}
@@ -29,65 +29,12 @@ use Rattle.frame.specs.declared.FrameState.{FrameState}
 use Rattle.frame.specs.Frames.{Lists, Subframes, first_half, second_half, searched_with, four_searches, all_four, with_lags, parts, lengths_of, frame_checks, checked_parts, frame_of}
 use Rattle.frame.specs.Statement.{OneOrFour, RefusedByChecks, FramesRefused, Frames}
 use Rattle.frame.specs.Opens.{frame_opens}
-use Rattle.frame.proofs.Parts.{no_values, unchanged}
-
--- ---- checks, and what follows them
-unit_told : {A : Type 0} (t : Told A) → accepts t ≡ true → put (λ a. tt {0}) t ≡ values tt
-unit_told (values a) e = refl
-unit_told (refused n d) e = contradiction e
-
--- where what follows has values, the refusals are those of the checks
-by_checks : {A : Type 0} (t : Told A) (cs : List Check) → (Passes cs → accepts t ≡ true) →
-    put (λ a. tt {0}) (checked cs refused t) ≡ checked cs refused (values tt)
-by_checks t [] h = unit_told t (h tt)
-by_checks t (c ∷ cs) h = go c.passes refl (λ p. by_checks t cs p)
-  where
-    go : (b : Bool) → c.passes ≡ b → ((Passes cs → accepts t ≡ true) → put (λ a. tt {0}) (checked cs refused t) ≡ checked cs refused (values tt)) →
-        put (λ a. tt {0}) (checked (c ∷ cs) refused t) ≡ checked (c ∷ cs) refused (values tt)
-    go true q rest = rw q (rest (λ p. h (q, p)))
-    go false q rest = rw q refl
-
-without_state : {A S : Type 0} (s : S) (t : Told (A × S)) → put (λ a. tt {0}) (whole_or_nothing s t).answer ≡ put (λ a. tt {0}) t
-without_state s (values (a, after)) = refl
-without_state s (refused n d) = refl
-
--- an answer, and what follows each of its values
-accepts_next : {A B : Type 0} (t : Told A) (next : A → Told B) → accepts t ≡ true → ((a : A) → t ≡ values a → accepts (next a) ≡ true) →
-    accepts (and_then t next) ≡ true
-accepts_next (values a) next e h = h a refl
-accepts_next (refused n d) next e h = contradiction e
+use Rattle.frame.proofs.Parts.{unchanged}
 
 all_accepted : {A S : Type 0} (o : Subframes (Outcome A S)) → accepts o.one.answer ≡ true → accepts o.two.answer ≡ true → accepts o.three.answer ≡ true →
     accepts o.four.answer ≡ true → accepts (all_four o) ≡ true
 all_accepted o a b c d =
     accepts_next o.one.answer _ a (λ p e. accepts_next o.two.answer _ b (λ q e. accepts_next o.three.answer _ c (λ r e. accepts_next o.four.answer _ d (λ t e. refl))))
-
--- checks whose numbers all have a property: so has that of a refusal by them
-module _ (P : ℕ → Type 0) where
-  abbrev pub Numbered : List Check → Type 0
-  Numbered [] = Unit {0}
-  Numbered (c ∷ cs) = P c.number × Numbered cs
-
-  pub numbered : {A : Type 0} (t : Told A) (n : ℕ) (d : ℤ) (cs : List Check) → Numbered cs → (t ≡ refused n d → P n) → checked cs refused t ≡ refused n d → P n
-  numbered t n d [] ps h e = h e
-  numbered {A = A} t n d (c ∷ cs) (p, ps) h e = go c.passes refl (numbered t n d cs ps h)
-    where
-      go : (b : Bool) → c.passes ≡ b → (checked cs refused t ≡ refused n d → P n) → P n
-      go true q rest = rest (rw q at e)
-      go false q rest =
-          let f : ◌≡◌ {A = Told A} (refused c.number c.detail) (refused n d) = rw q at e in
-          let g : c.number ≡ n = cc in
-          rw (← g) p
-
--- the answer of an entry with a state is that of its checks, and then of what they let through
-pub told_of : {A S : Type 0} (s : S) (a : Outcome A S) (cs : List Check) → (unless_refused cs s a).answer ≡ checked cs refused a.answer
-told_of s a [] = refl
-told_of s a (c ∷ cs) = go c.passes (told_of s a cs)
-  where
-    go : (b : Bool) → (unless_refused cs s a).answer ≡ checked cs refused a.answer →
-        (cond b (unless_refused cs s a) (record { answer = refused c.number c.detail; after = s })).answer ≡ cond b (checked cs refused a.answer) (refused c.number c.detail)
-    go true rest = rest
-    go false rest = refl
 
 -- ---- the parts of a handset's frame
 abbrev In : ℕ → Type 0

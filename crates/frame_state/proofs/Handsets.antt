@@ -15,7 +15,8 @@ use Rattle.frame.specs.declared.FrameState.{FrameState}
 use Rattle.frame.specs.Frames.{Lists, Subframes, frame_of}
 use Rattle.frame.specs.Opens.{frame_opens}
 use Rattle.frame.specs.Statement.{OneOrFour}
-use Rattle.frame.proofs.Refusals.{Numbered, numbered, told_of, refused_by_checks}
+use Rattle.refusal.proofs.Answers.{Numbered, numbered, told_of}
+use Rattle.frame.proofs.Refusals.{refused_by_checks}
 use Rattle.frame_state.specs.Calls.{FrameNumbers, frame_numbers, frame_call_checks, frame_in_numbers, OneTwoOrFour, HandsetFrames, FramesInNumbers}
 
 module _ (s : PitchState) (samples : List ℤ) (x : Subframes Lists) (history : List ℤ) (n : ℕ) (d : ℤ) (u : eqb s.upper 120 ≡ false) where

@@ -4,6 +4,7 @@ pub mod Lengths
 pub mod OpenLoops
 pub mod Pitches
 pub mod Frames
+pub mod Channels
 pub mod Pulses
 pub mod Gains
 pub mod Powers

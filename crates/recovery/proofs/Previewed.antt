@@ -2,7 +2,8 @@
 use mathlib.Core.Path.{◌≡◌, refl, ap, ◌∙◌}
 use mathlib.Core.List.{List, [], ◌∷◌, ◌++◌, map}
 use Rattle.pitch_search.specs.Previews.{preview_of}
-use Rattle.recovery.specs.Runs.{State, Input, Step, steps, after_all, run}
+use Rattle.pitch_search.specs.Inputs.{Input}
+use Rattle.recovery.specs.Runs.{State, Step, steps, after_all, run}
 use Rattle.recovery.specs.Previews.{Call, entry, preview, Seen, stepped, after_preview, run_calls, entries, steps_seen, PreviewsChangeNothing}
 
 as_before : (σ : State) (x : Input) → after_preview σ x ≡ σ

@@ -32,7 +32,8 @@ use Rattle.pitch_search.proofs.Outcomes.{is_expected, through, unchanged}
 use Rattle.frame.specs.declared.FramePitches.{FramePitches}
 use Rattle.frame.specs.Frames.{Subframes, four_searches}
 use Rattle.frame.proofs.Parts.{Searched, accepted as frame_accepted, unchanged as frame_unchanged}
-use Rattle.recovery.specs.Runs.{Input, FrameInput, Entry, search, reset, stray, frame, State, fresh_state, Event, Step, answered, searched, searched_step, reset_step, stray_step, frame_refused_step, frame_state, frame_answered, framed, after_all, run}
+use Rattle.pitch_search.specs.Inputs.{Input, searched}
+use Rattle.recovery.specs.Runs.{FrameInput, Entry, search, reset, stray, frame, State, fresh_state, Event, Step, answered, searched_step, reset_step, stray_step, frame_refused_step, frame_state, frame_answered, framed, after_all, run}
 use Rattle.recovery.specs.Frames.{single}
 use Rattle.recovery.specs.Windows.{SameStart, WindowsAgree}
 use Rattle.recovery.specs.Statement.{Last, none, last, last_after, due, one_or_three, FollowsIntact, WithinWidth, Stray, Recovers, Each, Recovery}

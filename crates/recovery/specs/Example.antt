@@ -1,26 +1,16 @@
 -- A handset's run with damaged indexes, stray readings, a refused search and a reset; and a player's run. All samples are 0.
-use Rattle.std.specs.Prelude.{◌≡◌, List, [], ◌∷◌, map, ℕ, pos, replicate}
+use Rattle.std.specs.Prelude.{◌≡◌, List, [], ◌∷◌, map, ℕ, pos}
 use Rattle.refusal.specs.Refused.{values, refused}
 use Rattle.pitch.specs.declared.Fraction.TheVariants.{Zero, PlusThird}
 use Rattle.pitch.specs.declared.PitchLag.{PitchLag}
 use Rattle.pitch.specs.declared.UpperLag.TheVariants.{Player, Handset}
 use Rattle.lag_reader.specs.Readers.{fresh_reader}
 use Rattle.pitch_search.specs.Searches.{fresh_search}
-use Rattle.recovery.specs.Runs.{State, Input, Entry, search, reset, stray, Event, at_place, search_refused, made_fresh, strayed, Step, fresh_state, run}
+use Rattle.pitch_search.specs.Inputs.{Input, silent_at}
+use Rattle.recovery.specs.Runs.{State, Entry, search, reset, stray, Event, at_place, search_refused, made_fresh, strayed, Step, fresh_state, run}
 use Rattle.recovery.specs.Statement.{none, WithinWidth, Stray, Each}
 
--- such a search of subframe n; both open-loop lags are the same
-abbrev pub silent_at : ℕ → ℕ → Input
-silent_at lag n =
-    record {
-      subframe = n;
-      excitation = replicate 194 (pos 0);
-      target = replicate 40 (pos 0);
-      impulse = replicate 40 (pos 0);
-      first = lag;
-      second = lag;
-    }
-
+-- a search of subframe n on them
 abbrev pub silent : ℕ → Input
 silent n = silent_at 80 n
 

@@ -8,7 +8,8 @@ use Rattle.open_loop.specs.Detectors.{fresh_detector, Pitch_ol}
 use Rattle.frame.specs.declared.FramePitches.{FramePitches}
 use Rattle.frame.specs.Frames.{Lists, Subframes, first_half, second_half}
 use Rattle.frame.specs.Statement.{silent_sets}
-use Rattle.recovery.specs.Runs.{State, Input, Entry, search, frame, FrameInput, Event, at_place, frame_refused, Step, frame_answered, fresh_state, run}
+use Rattle.pitch_search.specs.Inputs.{Input}
+use Rattle.recovery.specs.Runs.{State, Entry, search, frame, FrameInput, Event, at_place, frame_refused, Step, frame_answered, fresh_state, run}
 use Rattle.recovery.specs.Statement.{none, WithinWidth, Stray, Each}
 use Rattle.recovery.specs.Example.{silent, lag_82, lag_85}
 

@@ -6,8 +6,9 @@ use Rattle.pitch.specs.declared.UpperLag.TheVariants.{Player, Handset}
 use Rattle.pitch_search.specs.declared.Search.{Search}
 use Rattle.pitch_search.specs.declared.SearchedPitch.{SearchedPitch}
 use Rattle.pitch_search.specs.Previews.{preview_of}
-use Rattle.recovery.specs.Runs.{State, Input, Entry, search, reset, Event, at_place, made_fresh, Step, fresh_state, steps, after_all, run}
-use Rattle.recovery.specs.Example.{silent, silent_at, lag_82, lag_85}
+use Rattle.pitch_search.specs.Inputs.{Input, silent_at}
+use Rattle.recovery.specs.Runs.{State, Entry, search, reset, Event, at_place, made_fresh, Step, fresh_state, steps, after_all, run}
+use Rattle.recovery.specs.Example.{silent, lag_82, lag_85}
 
 -- an entry of demand 3's list, or a preview of a search
 pub data Call : Type 0 where

@@ -9,22 +9,14 @@ use Rattle.lag_reader.specs.declared.Reader.{Reader}
 use Rattle.lag_reader.specs.Readers.{fresh_reader, reset_reader, read}
 use Rattle.pitch_search.specs.declared.Search.{Search}
 use Rattle.pitch_search.specs.declared.SearchedPitch.{SearchedPitch}
-use Rattle.pitch_search.specs.Searches.{fresh_search, reset_search, Pitch_fr}
+use Rattle.pitch_search.specs.Searches.{fresh_search, reset_search}
+use Rattle.pitch_search.specs.Inputs.{Input, searched}
 use Rattle.open_loop.specs.declared.Detector.{Detector}
 use Rattle.frame.specs.declared.FramePitches.{FramePitches}
 use Rattle.frame.specs.declared.FrameState.{FrameState}
 use Rattle.frame.specs.Frames.{Lists, Subframes, four_searches, frame_of}
 
--- what a pitch search is handed
-pub record Input : Type 0 where
-  pub subframe : ℕ
-  pub excitation : List ℤ
-  pub target : List ℤ
-  pub impulse : List ℤ
-  pub first : ℕ
-  pub second : ℕ
-
--- and a whole frame: any detector, so nothing is assumed of the words before it
+-- what a whole frame is handed: any detector, so nothing is assumed of the words before it
 pub record FrameInput : Type 0 where
   pub detector : Detector
   pub samples : List ℤ
@@ -80,10 +72,6 @@ answered σ n i s (values p) =
       after = record { searcher = s; reader = (read σ.reader n i).after };
     }
 answered σ n i s (refused m d) = record { before = σ; event = search_refused m d; after = record { searcher = s; reader = σ.reader } }
-
--- the search of an input
-abbrev pub searched : Search → Input → Outcome SearchedPitch Search
-searched s x = Pitch_fr s x.excitation x.target x.impulse x.first x.second x.subframe
 
 -- the steps of a search, a reset and a stray reading
 abbrev pub searched_step : State → Input → ℕ → Step

@@ -1,5 +1,5 @@
 -- A list of checks: it accepts where every check passes, and refuses, leaving the state as it was, where one does not.
-use mathlib.Core.Path.{◌≡◌, refl, sym, ap, ◌∙◌}
+use mathlib.Core.Path.{◌≡◌, refl, sym, ◌∙◌}
 use mathlib.Core.Bool.{Bool, true, false, cond}
 use mathlib.Core.List.{List, [], ◌∷◌}
 use mathlib.Core.Logic.{◌⊎◌, inl, inr}
@@ -60,9 +60,18 @@ module _ {A S : Type 0} (s : S) (a : Outcome A S) where
       go true q rest = rw q (rest (λ p. n (q, p)))
       go false q rest = rw q (refl, refl)
 
-  -- so a refusal leaves the state as it was, where what is accepted has values
+  -- so a refusal leaves the state as it was, where a refusal of what is let through does
+  pub refused_kept : (cs : List Check) → (accepts a.answer ≡ false → a.after ≡ s) → accepts (unless_refused cs s a).answer ≡ false → (unless_refused cs s a).after ≡ s
+  refused_kept [] h e = h e
+  refused_kept (c ∷ cs) h e = go c.passes refl (refused_kept cs h)
+    where
+      go : (t : Bool) → c.passes ≡ t → (accepts (unless_refused cs s a).answer ≡ false → (unless_refused cs s a).after ≡ s) → (unless_refused (c ∷ cs) s a).after ≡ s
+      go true q rest = rw q (rest (rw q at e))
+      go false q rest = rw q
+
+  -- or where it has values
   pub kept : (cs : List Check) → accepts a.answer ≡ true → accepts (unless_refused cs s a).answer ≡ false → (unless_refused cs s a).after ≡ s
-  kept cs h e = (failed cs (λ p. contradiction (sym e ∙ ap (λ (o : Outcome A S). accepts o.answer) (passed cs p) ∙ h))).1
+  kept cs h e = refused_kept cs (λ f. contradiction (sym f ∙ h)) e
 
 -- one check by itself, for an entry that hands on what a callee told: where it accepted, the check passes and the values are its own
 module _ {A : Type 0} (c : Check) (v : A) where

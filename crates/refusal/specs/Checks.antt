@@ -1,5 +1,5 @@
 -- 01, 'What is turned down, in checking order': an entry's checks are a list, and the first that fails gives the refusal.
-use Rattle.std.specs.Prelude.{Bool, cond, ◌&&◌, List, [], ◌∷◌, ℕ, leb, eqb, ℤ, pos, negsuc, length}
+use Rattle.std.specs.Prelude.{Bool, cond, ◌&&◌, List, [], ◌∷◌, ℕ, leb, ltb, eqb, ℤ, pos, negsuc, length}
 use Rattle.std.specs.Int.Signed.{le_z}
 use Rattle.refusal.specs.declared.Step.{Step}
 use Rattle.refusal.specs.Refused.{Told, values, refused, told}
@@ -80,3 +80,11 @@ position_word n = record { passes = leb n 8191; number = 8; detail = pos n }
 -- and a sign word at most 15
 abbrev pub sign_word : ℕ → Check
 sign_word n = record { passes = leb n 15; number = 8; detail = pos n }
+
+-- 02, number 15: a list of channels has 1 to 24
+abbrev pub channel_count : ℕ → Check
+channel_count n = record { passes = within 1 24 n; number = 15; detail = pos n }
+
+-- number 16: a channel to be marked is 0 to the length less 1
+abbrev pub channel_number : ℕ → ℕ → Check
+channel_number n k = record { passes = ltb k n; number = 16; detail = pos k }

@@ -2,7 +2,7 @@
 use Rattle.std.specs.Prelude.{Bool, true, false, List, ◌∷◌, ◌++◌, ℕ, ℤ, pos, Result, Ok, Err}
 use Rattle.std.specs.Fmt.{decimal, signed_decimal}
 use Rattle.refusal.specs.declared.Refusal.{Refusal}
-use Rattle.refusal.specs.declared.Refusal.TheVariants.{Length, Subframe, LimitChoice, OpenLoopLag, Order, RelativeIndex, PulseLag, Exponent, Positions, Signs, Kind, FeedEnd, Fraction}
+use Rattle.refusal.specs.declared.Refusal.TheVariants.{Length, Subframe, LimitChoice, OpenLoopLag, Order, RelativeIndex, PulseLag, Exponent, Positions, Signs, Kind, FeedEnd, Fraction, Channels, Channel, NoneWaits}
 
 -- the number of each case
 abbrev pub number : Refusal → ℕ
@@ -19,6 +19,9 @@ number (Signs n) = 8
 number (Kind n) = 9
 number (FeedEnd n) = 10
 number (Fraction n) = 14
+number (Channels n) = 15
+number (Channel n) = 16
+number NoneWaits = 17
 
 -- the detail of each case: what its field holds
 abbrev pub detail : Refusal → ℤ
@@ -35,6 +38,9 @@ detail (Signs n) = pos n
 detail (Kind n) = pos n
 detail (FeedEnd n) = pos n
 detail (Fraction n) = pos n
+detail (Channels n) = pos n
+detail (Channel n) = pos n
+detail NoneWaits = pos 0
 
 -- a refusal in text: its number, a space, its detail
 abbrev pub in_text : Refusal → List ℕ

@@ -33,6 +33,12 @@ pub enum Refusal {
     FeedEnd(usize),
     // 14: the fraction of a power or of a prediction
     Fraction(u16),
+    // 15: the length of a list of channels
+    Channels(usize),
+    // 16: the number of a channel to be marked
+    Channel(usize),
+    // 17: no channel waits
+    NoneWaits,
 }
 
 // What an entry with a state answers, and the state that it keeps for the next call.
@@ -72,6 +78,9 @@ impl Refusal {
             Refusal::Kind(_) => 9,
             Refusal::FeedEnd(_) => 10,
             Refusal::Fraction(_) => 14,
+            Refusal::Channels(_) => 15,
+            Refusal::Channel(_) => 16,
+            Refusal::NoneWaits => 17,
         }
     }
 
@@ -94,6 +103,9 @@ impl Refusal {
             Refusal::Kind(n) => n as i128,
             Refusal::FeedEnd(n) => n as i128,
             Refusal::Fraction(n) => n as i128,
+            Refusal::Channels(n) => n as i128,
+            Refusal::Channel(n) => n as i128,
+            Refusal::NoneWaits => 0,
         }
     }
 }

@@ -1,7 +1,7 @@
 //! The stages, each on all its records of a feed in order, with the state that it keeps.
 
 use super::{
-    Feed, Row, best,
+    Feed, Row, best, dispatch,
     frames::{Library, Published},
 };
 use crate::{
@@ -29,35 +29,97 @@ use std::{hint::black_box, time::Instant};
 const ROUNDS: usize = 25;
 /// The rounds of two sides that do the same work.
 const EVEN_ROUNDS: usize = 300;
+/// What dispatching may cost, in hundredths of the searches.
+const DISPATCH: f64 = 105.0;
 /// The least time of a round, in seconds.
 const ROUND: f64 = 0.001;
 
-/// The time of a stage on a feed's calls, as a ratio.
+/// The seconds of a stage's call on a feed's calls: the library's and the Rust's.
+type Times = fn(&Calls) -> [f64; 2];
+
+/// The time of the library on a feed's calls, as a ratio to that of other calls of it.
 type Ratio = fn(&Calls) -> f64;
 
-pub fn rows(feeds: &[Feed]) -> Vec<Row> {
-    let stages: [(&str, Ratio); 11] = [
-        ("open loop", Calls::open_loop),
-        ("pitch", Calls::pitch),
-        ("preview", Calls::preview),
-        ("frame", Calls::frame),
-        ("frame, its six calls being 1", Calls::frame_to_calls),
-        ("pulses", Calls::pulses),
-        ("gain", Calls::gain),
-        ("filtering", Calls::filtering),
-        ("residual", Calls::residual),
-        ("convolve", Calls::convolve),
-        ("pitch gain", Calls::pitch_gain),
-    ];
-    let readers: [(&str, Ratio); 2] = [
-        ("lag reader", Calls::lag_reader),
-        ("pulse reader", Calls::pulse_reader),
+enum Measure {
+    /// Beside the Rust, and how often the encoder calls it in a second of speech.
+    Stage(f64, Times),
+    /// Beside other calls of the library, and the greatest ratio in hundredths.
+    Even(f64, Ratio),
+    /// Shown only.
+    Shown(Times),
+}
+
+/// How often the encoder calls a stage in a second: for each subframe, or for each half frame.
+const SUBFRAMES: f64 = 200.0;
+const HALF_FRAMES: f64 = 100.0;
+/// The encoder does not call it: what it stands for is counted by itself.
+const NEVER: f64 = 0.0;
+
+pub struct Measured {
+    pub rows: Vec<Row>,
+    /// For each feed, how many calls one core carries with the library and with the Rust.
+    pub carried: Vec<[u64; 2]>,
+}
+
+/// A call has what the published encoder calls of these stages. For each half frame that is the
+/// open loop. For each subframe it is the residual, which its filter of weighted speech takes, the
+/// filtering, the pitch search, the convolution of the adaptive words, their pitch gain, the pulses
+/// and the gain row. Its other work is not counted, nor are the readers and the dispatcher.
+pub fn measured(feeds: &[Feed]) -> Measured {
+    use Measure::*;
+    let measures: [(&str, Measure); 16] = [
+        ("open loop", Stage(HALF_FRAMES, Calls::open_loop)),
+        ("pitch", Stage(SUBFRAMES, Calls::pitch)),
+        ("preview", Stage(NEVER, Calls::preview)),
+        ("frame", Stage(NEVER, Calls::frame)),
+        (
+            "frame, its six calls being 1",
+            Even(100.0, Calls::frame_to_calls),
+        ),
+        ("dispatch", Stage(NEVER, Calls::dispatch)),
+        (
+            "dispatch, its searches being 1",
+            Even(DISPATCH, Calls::dispatch_to_searches),
+        ),
+        (
+            "the same, each step seeing all 24",
+            Even(DISPATCH, Calls::long_dispatch_to_searches),
+        ),
+        ("pulses", Stage(SUBFRAMES, Calls::pulses)),
+        ("gain", Stage(SUBFRAMES, Calls::gain)),
+        ("filtering", Stage(SUBFRAMES, Calls::filtering)),
+        ("residual", Stage(SUBFRAMES, Calls::residual)),
+        ("convolve", Stage(SUBFRAMES, Calls::convolve)),
+        ("pitch gain", Stage(SUBFRAMES, Calls::pitch_gain)),
+        ("lag reader", Shown(Calls::lag_reader)),
+        ("pulse reader", Shown(Calls::pulse_reader)),
     ];
     let calls: Vec<_> = feeds.iter().map(|feed| Calls::of(&feed.records)).collect();
-    let ratios = |ratio: Ratio| calls.iter().map(ratio).collect();
-    let held = stages.map(|(name, ratio)| Row::held(name, ratios(ratio)));
-    let shown = readers.map(|(name, ratio)| Row::shown(name, ratios(ratio)));
-    held.into_iter().chain(shown).collect()
+    let mut seconds = vec![[0.0; 2]; feeds.len()];
+    let mut rows = Vec::new();
+    for (name, measure) in measures {
+        rows.push(match measure {
+            Stage(often, times) => {
+                let times: Vec<_> = calls.iter().map(times).collect();
+                for (seconds, times) in seconds.iter_mut().zip(&times) {
+                    *seconds = [0, 1].map(|side| seconds[side] + often * times[side]);
+                }
+                Row::held(name, times.into_iter().map(quotient).collect())
+            }
+            Even(most, ratio) => Row::within(name, most, calls.iter().map(ratio).collect()),
+            Shown(times) => Row::shown(name, calls.iter().map(times).map(quotient).collect()),
+        });
+    }
+    let carried = seconds.into_iter();
+    let carried = carried.map(|sides| sides.map(|seconds| (1.0 / seconds) as u64));
+    Measured {
+        rows,
+        carried: carried.collect(),
+    }
+}
+
+fn quotient([ours, other]: [f64; 2]) -> f64 {
+    ours / other
 }
 
 /// One side: what it keeps at first, and what it does with a call.
@@ -88,18 +150,19 @@ impl<C, S, A> Side<C, S, A> {
     }
 }
 
-fn ratio<C, S, T, A, B>(calls: &[C], ours: Side<C, S, A>, other: Side<C, T, B>) -> f64 {
+/// The seconds of a call of each side.
+fn times<C, S, T, A, B>(calls: &[C], ours: Side<C, S, A>, other: Side<C, T, B>) -> [f64; 2] {
     let times = other.times(calls);
-    let [ours, other] = best(
+    let best = best(
         ROUNDS,
         || ours.round(calls, times),
         || other.round(calls, times),
     );
-    ours / other
+    best.map(|seconds| seconds / (times * calls.len()) as f64)
 }
 
-/// The same of two sides that do the same work. The ratio is so near 1 that the machine's changes
-/// between two rounds matter, so it is the middle one of the ratios of many rounds.
+/// The ratio of two sides that do the same work. It is so near 1 that the machine's changes between
+/// two rounds matter, so it is the middle one of the ratios of many rounds.
 fn even_ratio<C, S, T, A, B>(calls: &[C], ours: Side<C, S, A>, other: Side<C, T, B>) -> f64 {
     let times = other.times(calls);
     let mut ratios = [(); EVEN_ROUNDS].map(|()| {
@@ -110,10 +173,10 @@ fn even_ratio<C, S, T, A, B>(calls: &[C], ours: Side<C, S, A>, other: Side<C, T,
     ratios[EVEN_ROUNDS / 2]
 }
 
-/// The same of functions that keep nothing.
+/// The times of functions that keep nothing.
 macro_rules! plain {
     ($calls:expr, |$call:ident| $ours:expr, $other:expr $(,)?) => {
-        ratio(
+        times(
             $calls,
             Side {
                 fresh: || (),
@@ -130,10 +193,10 @@ macro_rules! plain {
 /// The same of stages that keep something, which a reset makes fresh.
 macro_rules! kept {
     (
-        $ratio:ident of $calls:expr,
+        $measured:ident of $calls:expr,
         |$state:ident, $call:ident| $($fresh:path => $answer:expr),+ $(,)?
     ) => {
-        $ratio(
+        $measured(
             $calls,
             $(Side {
                 fresh: $fresh,
@@ -147,7 +210,7 @@ macro_rules! kept {
         )
     };
     ($calls:expr, $($sides:tt)+) => {
-        kept!(ratio of $calls, $($sides)+)
+        kept!(times of $calls, $($sides)+)
     };
 }
 
@@ -264,14 +327,14 @@ impl Calls {
         calls
     }
 
-    fn open_loop(&self) -> f64 {
+    fn open_loop(&self) -> [f64; 2] {
         kept!(&self.halves, |detector, half|
             mr74::pitch::open_loop::Detector::default => detector.push(half),
             pitch::open_loop::Detector::default => detector.push(half),
         )
     }
 
-    fn pitch(&self) -> f64 {
+    fn pitch(&self) -> [f64; 2] {
         kept!(&self.pitches, |searcher, call|
             mr74::pitch::search::Search::default => searcher.search(
                 &call.excitation, &call.target, &call.impulse, call.ours, call.subframe,
@@ -283,7 +346,7 @@ impl Calls {
     }
 
     /// Each of a pitch record on the searcher that the record meets.
-    fn preview(&self) -> f64 {
+    fn preview(&self) -> [f64; 2] {
         plain!(
             &self.pitches,
             |kept| kept.call.previewed(),
@@ -291,7 +354,7 @@ impl Calls {
         )
     }
 
-    fn frame(&self) -> f64 {
+    fn frame(&self) -> [f64; 2] {
         kept!(&self.frames, |states, frame|
             Library::fresh => states.frame(frame),
             Published::default => states.six_calls(frame),
@@ -306,7 +369,59 @@ impl Calls {
         )
     }
 
-    fn pulses(&self) -> f64 {
+    /// Frames for all channels, those at the end left out.
+    fn channels(&self) -> Vec<dispatch::Frames<'_>> {
+        let (frames, _) = self.frames.as_chunks();
+        let frames = frames.iter();
+        frames
+            .map(|frames| frames.each_ref().map(|kept| &kept.call))
+            .collect()
+    }
+
+    fn dispatch(&self) -> [f64; 2] {
+        times(
+            &self.channels(),
+            Side {
+                fresh: dispatch::Library::fresh,
+                call: dispatch::Library::upward,
+            },
+            Side {
+                fresh: dispatch::Published::fresh,
+                call: dispatch::Published::upward,
+            },
+        )
+    }
+
+    fn dispatch_to_searches(&self) -> f64 {
+        even_ratio(
+            &self.channels(),
+            Side {
+                fresh: dispatch::Library::fresh,
+                call: dispatch::Library::upward,
+            },
+            Side {
+                fresh: dispatch::Searches::fresh,
+                call: dispatch::Searches::upward,
+            },
+        )
+    }
+
+    /// Each step looks at all channels.
+    fn long_dispatch_to_searches(&self) -> f64 {
+        even_ratio(
+            &self.channels(),
+            Side {
+                fresh: dispatch::Library::fresh,
+                call: dispatch::Library::downward,
+            },
+            Side {
+                fresh: dispatch::Searches::fresh,
+                call: dispatch::Searches::downward,
+            },
+        )
+    }
+
+    fn pulses(&self) -> [f64; 2] {
         plain!(
             &self.pulses,
             |call| bindings::pulse_search(call),
@@ -314,7 +429,7 @@ impl Calls {
         )
     }
 
-    fn gain(&self) -> f64 {
+    fn gain(&self) -> [f64; 2] {
         plain!(
             &self.gains,
             |call| bindings::quantize(call),
@@ -322,7 +437,7 @@ impl Calls {
         )
     }
 
-    fn filtering(&self) -> f64 {
+    fn filtering(&self) -> [f64; 2] {
         plain!(
             &self.filters,
             |call| bindings::prepare(call),
@@ -330,7 +445,7 @@ impl Calls {
         )
     }
 
-    fn residual(&self) -> f64 {
+    fn residual(&self) -> [f64; 2] {
         plain!(
             &self.filters,
             |call| bindings::residual(call),
@@ -339,7 +454,7 @@ impl Calls {
     }
 
     /// Of a pitch record's target and impulse response.
-    fn convolve(&self) -> f64 {
+    fn convolve(&self) -> [f64; 2] {
         plain!(
             &self.pitches,
             |kept| mr74::pitch::search::convolve(&kept.call.target, &kept.call.impulse),
@@ -347,7 +462,7 @@ impl Calls {
         )
     }
 
-    fn pitch_gain(&self) -> f64 {
+    fn pitch_gain(&self) -> [f64; 2] {
         plain!(
             &self.gains,
             |call| bindings::pitch_gain(call),
@@ -356,7 +471,7 @@ impl Calls {
     }
 
     /// The Rust has no reader of subframes: the other side is 01's rule over its two readings.
-    fn lag_reader(&self) -> f64 {
+    fn lag_reader(&self) -> [f64; 2] {
         kept!(&self.readings, |reader, sent|
             mr74::pitch::LagReader::default => {
                 reader.read(bindings::numbered(sent[0]), sent[1])
@@ -365,7 +480,7 @@ impl Calls {
         )
     }
 
-    fn pulse_reader(&self) -> f64 {
+    fn pulse_reader(&self) -> [f64; 2] {
         plain!(
             &self.pulse_words,
             |words| mr74::codebook::Codebook::try_new(words[0], words[1]),

@@ -215,26 +215,31 @@ fn change_numbers(random: &mut Random, numbers: &mut PitchState) {
     }
 }
 
+/// The pitch of a refused subframe.
+pub const REFUSED: FramePitch = FramePitch {
+    index: 0,
+    samples: 0,
+    fraction: 0,
+};
+
+/// A pitch in the form of the library's.
+pub fn pitch(SearchedPitch { lag, index }: SearchedPitch) -> FramePitch {
+    FramePitch {
+        index,
+        samples: lag.samples(),
+        fraction: lag.fraction().thirds(),
+    }
+}
+
 /// The answer in the form of the library's. Of a refused frame, the searcher that was given.
 pub fn answer(found: &Result<Parts, Refusal>, given: PitchState) -> FrameAnswer {
-    const REFUSED: FramePitch = FramePitch {
-        index: 0,
-        samples: 0,
-        fraction: 0,
-    };
     match found {
         Ok(parts) => FrameAnswer {
             number: 0,
             magnitude: 0,
             first_lag: parts.lags[0],
             second_lag: parts.lags[1],
-            pitches: parts
-                .pitches
-                .map(|SearchedPitch { lag, index }| FramePitch {
-                    index,
-                    samples: lag.samples(),
-                    fraction: lag.fraction().thirds(),
-                }),
+            pitches: parts.pitches.map(pitch),
             searcher: parts.after.searcher.state(),
         },
         Err(refusal) => FrameAnswer {

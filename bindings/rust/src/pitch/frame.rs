@@ -1,13 +1,12 @@
 //! A whole frame in one call.
 
 use super::{
-    PitchLag,
     open_loop::Detector,
     search::{EXCITATION_SAMPLES, OpenLoopLag, Search, SearchedPitch},
 };
 use crate::{
     Refusal, SUBFRAME_SAMPLES,
-    entries::{self, FramePitch, SubframeLists},
+    entries::{self, SubframeLists},
 };
 
 pub const FRAME_SAMPLES: usize = 160;
@@ -47,9 +46,6 @@ pub fn frame(
     *search = Search::of(answer.searcher);
     Ok(Frame {
         open_loop: [answer.first_lag, answer.second_lag].map(OpenLoopLag),
-        pitches: answer.pitches.map(|sent: FramePitch| SearchedPitch {
-            lag: PitchLag::of(sent.samples, sent.fraction),
-            index: sent.index,
-        }),
+        pitches: answer.pitches.map(SearchedPitch::of),
     })
 }

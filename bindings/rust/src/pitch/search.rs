@@ -4,7 +4,7 @@ use super::{PitchLag, UpperLag};
 pub use crate::Refusal as SearchError;
 use crate::{
     SUBFRAME_SAMPLES,
-    entries::{self, PitchAnswer, PitchState},
+    entries::{self, FramePitch, PitchAnswer, PitchState},
     refusal::sure,
 };
 
@@ -61,6 +61,15 @@ impl OpenLoopLag {
 pub struct SearchedPitch {
     pub lag: PitchLag,
     pub index: u8,
+}
+
+impl SearchedPitch {
+    pub(super) fn of(sent: FramePitch) -> Self {
+        Self {
+            lag: PitchLag::of(sent.samples, sent.fraction),
+            index: sent.index,
+        }
+    }
 }
 
 /// The default is a handset's.
