@@ -91,6 +91,20 @@ impl Line {
         self.shown.push((place, format!("{number:>9} {text}")));
     }
 
+    /// Compares one value with the one that is expected.
+    pub fn compare<T: Debug + PartialEq>(
+        &mut self,
+        index: u64,
+        input: &dyn Debug,
+        ours: &T,
+        other: &T,
+    ) {
+        self.compared += 1;
+        if ours != other {
+            self.difference(index, input, ours, other);
+        }
+    }
+
     #[cold]
     pub fn difference(
         &mut self,

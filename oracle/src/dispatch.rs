@@ -185,9 +185,10 @@ impl Tally {
         self.cases
             .count_found(&past.of_step(&before, call, &served));
         let expected = service_answer(&served, model.last());
-        place.compare(&mut self.lasts, answer.last, expected.last);
+        self.lasts
+            .compare(place.run, place, &answer.last, &expected.last);
         let [ours, other] = [answer, expected].map(|answer| ServiceAnswer { last: 0, ..answer });
-        place.compare(&mut self.steps, ours, other);
+        self.steps.compare(place.run, place, &ours, &other);
         library.last = expected.last;
         answer
     }
@@ -204,7 +205,8 @@ impl Tally {
         let ours = project::next(library.list(), library.last);
         // The compiler may take a list that is lent for reading as unchanged.
         black_box(&mut library.records);
-        place.compare(&mut self.tellings, ours, channel_answer(told));
+        self.tellings
+            .compare(place.run, place, &ours, &channel_answer(told));
     }
 
     fn compare_mark(
@@ -220,7 +222,8 @@ impl Tally {
         let marked = model.mark(number);
         let met = past.of_mark(model.count, (number, waited), &marked);
         self.cases.count_found(&met);
-        place.compare(&mut self.marks, ours, channel_answer(marked));
+        self.marks
+            .compare(place.run, place, &ours, &channel_answer(marked));
     }
 
     /// Compares all records, those beside the list too. The library goes on from the model's, so
@@ -401,15 +404,6 @@ struct Place<'a> {
     count: usize,
     last: usize,
     action: &'a Action,
-}
-
-impl Place<'_> {
-    fn compare<T: fmt::Debug + PartialEq>(&self, line: &mut Line, ours: T, other: T) {
-        line.compared += 1;
-        if ours != other {
-            line.difference(self.run, self, &ours, &other);
-        }
-    }
 }
 
 impl fmt::Debug for Place<'_> {

@@ -90,8 +90,8 @@ impl Tally {
             searcher: given,
             ..answer
         });
-        place.compare(answers, ours, other);
-        place.compare(searchers, library.searcher, expected.searcher);
+        answers.compare(place.chain, place, &ours, &other);
+        searchers.compare(place.chain, place, &library.searcher, &expected.searcher);
         histories.compared += 1;
         if let Some([ours, other]) = lent.difference(&kept) {
             histories.difference(place.chain, place, &ours, &other);
@@ -121,15 +121,6 @@ struct Place<'a> {
     last: Last,
     given: PitchState,
     frame: &'a Frame,
-}
-
-impl Place<'_> {
-    fn compare<T: fmt::Debug + PartialEq>(&self, line: &mut Line, ours: T, other: T) {
-        line.compared += 1;
-        if ours != other {
-            line.difference(self.chain, self, &ours, &other);
-        }
-    }
 }
 
 impl fmt::Debug for Place<'_> {

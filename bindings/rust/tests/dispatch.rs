@@ -3,13 +3,12 @@
 
 mod inputs;
 mod searches;
+mod states;
 
 use inputs::{Drawn, SILENCE, SILENT_EXCITATION, SUBFRAMES, on_silence};
 use mr74::{
     Refusal,
-    entries::{
-        self, ChannelAnswer, ChannelState, FramePitch, NO_CHANNEL, PitchState, ServiceAnswer,
-    },
+    entries::{self, ChannelAnswer, ChannelState, FramePitch, NO_CHANNEL, ServiceAnswer},
     pitch::{
         UpperLag,
         dispatch::{Channel, Dispatcher, Served, mark},
@@ -17,6 +16,7 @@ use mr74::{
     },
 };
 use searches::Inputs;
+use states::odd;
 
 const MOST: usize = 24;
 
@@ -319,17 +319,6 @@ fn a_channel_is_made_and_reset() {
         assert_eq!(channels[0].searcher(), Search::player());
         assert_eq!(channels[0].is_waiting(), marked);
         assert_eq!(mark(&mut channels, 0), Ok(()));
-    }
-}
-
-/// No search keeps these numbers.
-fn odd(next: u8, upper: u8) -> PitchState {
-    PitchState {
-        samples: u16::MAX,
-        fraction: -5,
-        next,
-        upper,
-        start: 7,
     }
 }
 

@@ -2,6 +2,7 @@
 //! part of it is refused, a number and a detail come back and nothing has changed.
 
 mod inputs;
+mod states;
 
 use inputs::{Drawn, SILENCE, SILENT_EXCITATION, SUBFRAMES, on_silence};
 use mr74::{
@@ -14,6 +15,7 @@ use mr74::{
         search::{EXCITATION_SAMPLES, OpenLoopLag, Search, Subframe},
     },
 };
+use states::odd;
 
 type Words = [i16; SUBFRAME_SAMPLES];
 
@@ -179,17 +181,6 @@ fn refused(answer: FrameAnswer, given: PitchState) -> (u8, u64) {
 
 /// Upper lags: the first is taken as a handset's.
 const UPPERS: [u8; 3] = [7, 120, 143];
-
-/// No accepted frame keeps these numbers.
-fn odd(next: u8, upper: u8) -> PitchState {
-    PitchState {
-        samples: u16::MAX,
-        fraction: -5,
-        next,
-        upper,
-        start: 7,
-    }
-}
 
 #[test]
 fn a_frame_answers_and_keeps_what_its_parts_do() {

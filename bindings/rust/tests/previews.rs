@@ -2,6 +2,7 @@
 
 mod inputs;
 mod searches;
+mod states;
 
 use inputs::{Drawn, SILENCE, SILENT_EXCITATION, SUBFRAMES, on_silence};
 use mr74::{
@@ -13,6 +14,7 @@ use mr74::{
     },
 };
 use searches::Inputs;
+use states::odd;
 
 fn preview(inputs: &Inputs, searcher: &Search) -> Result<SearchedPitch, Refusal> {
     let (excitation, target, impulse) = (&inputs.excitation, &inputs.target, &inputs.impulse);
@@ -127,13 +129,7 @@ fn answer(of: PitchAnswer) -> (u8, u64, u8, u16, i16) {
 fn a_shown_state_is_handed_back_whatever_its_numbers_are() {
     for upper in [0, 7, 120, 143, 255] {
         for next in 0..=6 {
-            let given = PitchState {
-                samples: u16::MAX,
-                fraction: -5,
-                next,
-                upper,
-                start: 7,
-            };
+            let given = odd(next, upper);
             let mut accepted = 0;
             for lags in [[80, 100], [120, 121], [19, 144]] {
                 for subframe in 0..=6 {

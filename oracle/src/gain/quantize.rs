@@ -154,10 +154,7 @@ fn compare_answer(line: &mut Line, drawn: &Drawn) -> Nearest {
     let call = &drawn.call;
     let ours = project::quantize(call.lists(), call.exponent, call.fraction, call.choice());
     let nearest = call.nearest();
-    line.compared += 1;
     let expected = answer(Ok((nearest.index, call.clips())));
-    if ours != expected {
-        line.difference(drawn.index, drawn, &ours, &expected);
-    }
+    line.compare(drawn.index, drawn, &ours, &expected);
     nearest
 }

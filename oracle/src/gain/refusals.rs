@@ -42,10 +42,7 @@ pub fn compare_pitch_gain() -> Vec<Line> {
         let ours = project::pitch_gain(lists.each_ref().map(Vec::as_slice));
         let refused = checked_pitch(lengths).map(|()| unreachable!("a call that is refused"));
         let expected = pitch_answer(refused);
-        line.compared += 1;
-        if ours != expected {
-            line.difference(index, &lengths, &ours, &expected);
-        }
+        line.compare(index, &lengths, &ours, &expected);
     }
     vec![line]
 }
@@ -134,11 +131,8 @@ fn compare_fractions() -> [Line; 2] {
                     Err(number) => unreachable!("refused by {number}"),
                 }
                 let expected = answer(row);
-                line.compared += 1;
-                if ours != expected {
-                    let input = (exponent, fraction, choice);
-                    line.difference(fraction.into(), &input, &ours, &expected);
-                }
+                let input = (exponent, fraction, choice);
+                line.compare(fraction.into(), &input, &ours, &expected);
             }
         }
     }
@@ -168,8 +162,5 @@ fn compare_refusal(line: &mut Line, index: u64, call: &Refused) {
     );
     let refused = checked(lengths, exponent, fraction, choice);
     let expected = answer(refused.map(|_| unreachable!("a call that is refused")));
-    line.compared += 1;
-    if ours != expected {
-        line.difference(index, call, &ours, &expected);
-    }
+    line.compare(index, call, &ours, &expected);
 }
