@@ -61,6 +61,8 @@ extern "C" {
 #define MR74_ORDER 10         /* the past of a filter, the oldest word first */
 #define MR74_SPEECH 50        /* MR74_ORDER words of the past, then the subframe */
 #define MR74_FILTER_WORDS 160 /* residual, impulse, target and error of a filtering record */
+#define MR74_SPECTRUM 10      /* the line spectral pairs of a frame, as cosines in Q15 */
+#define MR74_STORED_GAINS 7   /* what a resonance watch keeps */
 
 /* Refusals, by the table above. */
 enum {
@@ -445,6 +447,69 @@ mr74_gain_answer mr74_quantize(const int16_t *target_q0, size_t target_length,
                                const int16_t *filtered_q12, size_t filtered_length,
                                int16_t exponent, uint16_t fraction_q15, uint8_t limit);
 
+/* ---- Resonance watch ---- */
+
+/*
+ * The watch chooses the limit of the gain stage, for a site whose input has test tones. It crosses
+ * as a count and as MR74_STORED_GAINS words, the oldest first, which are lent and updated. Fresh,
+ * and after a reset, the count and all words are 0; any numbers are taken.
+ *
+ * Once a frame, mr74_observe_spectrum; in each of its subframes, mr74_watched_gain. The caller
+ * keeps the count of the one and the words of the other for the next call. A gain stage under a
+ * limit set by hand is mr74_quantize, which has nothing to do with the watch.
+ */
+
+typedef struct {
+    uint8_t number;
+    uint64_t magnitude;
+    bool resonant; /* whether the count beside it is 12; false where refused */
+    uint8_t count; /* 0 to 12, for the next call; the one that was given where refused */
+} mr74_spectrum_answer;
+
+typedef struct {
+    uint8_t number;
+    uint64_t magnitude;
+    uint8_t limit; /* MR74_UNRESTRICTED or MR74_RESONANCE */
+} mr74_limit_answer;
+
+typedef struct {
+    mr74_gain_answer gain; /* as mr74_quantize answers: its `number` is that of this call */
+    uint8_t limit;         /* the limit that was chosen, and within which the row lies */
+} mr74_watched_gain_answer;
+
+/*
+ * Reads the line spectral pairs of a frame (MR74_SPECTRUM). A gap is a word less the next, clipped.
+ * Where one of the five gaps from the fourth word on is below 1500, or one of the two from the
+ * second word on below a threshold (600 for a second word above 32000, 800 above 30500, else 1100),
+ * the count rises by 1, to 12 at most; otherwise it is 0. The gaps of the first and of the ninth
+ * word are not looked at. Refuses by 1.
+ */
+mr74_spectrum_answer mr74_observe_spectrum(const int16_t *lsp_q15, size_t lsp_length,
+                                           uint8_t count);
+
+/*
+ * The limit that mr74_watched_gain would choose, for an encoder that needs it before the pulses.
+ * Nothing is written. It is resonance where the count is at least 12, the pitch gain is above
+ * 15565, and so is the sum of the pitch gain shifted right by 3 and then of the stored words, the
+ * oldest first, clipped after every addition. Refuses by 1.
+ */
+mr74_limit_answer mr74_watch_limit(int16_t pitch_gain_q14, uint8_t count,
+                                   const int16_t *gains_q11, size_t gains_length);
+
+/*
+ * mr74_quantize under the limit that the watch chooses, as it is before the call. The pitch gain is
+ * the caller's, as a rule that of mr74_pitch_gain: it is neither computed here nor that of the row.
+ * Afterwards the row's pitch gain, shifted right by 3, is the newest word and the oldest has left.
+ * Refuses by 1, with the stored words the last of the lists, and by 7 and 14: then the stored words
+ * are as they were.
+ */
+mr74_watched_gain_answer mr74_watched_gain(const int16_t *target_q0, size_t target_length,
+                                           const int16_t *adaptive_q0, size_t adaptive_length,
+                                           const int16_t *filtered_q12, size_t filtered_length,
+                                           int16_t exponent, uint16_t fraction_q15,
+                                           int16_t pitch_gain_q14, uint8_t count,
+                                           int16_t *gains_q11, size_t gains_length);
+
 /* ---- Logarithm and power to the base 2 ---- */
 
 typedef struct {
@@ -569,6 +634,12 @@ MR74_LAYOUT(sizeof(mr74_pitch_gain_answer) == 32 &&
             offsetof(mr74_pitch_gain_answer, energy_clips) == 26);
 MR74_LAYOUT(sizeof(mr74_gain_answer) == 32 && offsetof(mr74_gain_answer, negative) == 1 &&
             offsetof(mr74_gain_answer, energy_clips) == 24);
+MR74_LAYOUT(sizeof(mr74_spectrum_answer) == 24 &&
+            offsetof(mr74_spectrum_answer, resonant) == 16 &&
+            offsetof(mr74_spectrum_answer, count) == 17);
+MR74_LAYOUT(sizeof(mr74_limit_answer) == 24 && offsetof(mr74_limit_answer, limit) == 16);
+MR74_LAYOUT(sizeof(mr74_watched_gain_answer) == 40 &&
+            offsetof(mr74_watched_gain_answer, limit) == 32);
 MR74_LAYOUT(sizeof(mr74_logarithm) == 4);
 MR74_LAYOUT(sizeof(mr74_power_answer) == 24 && offsetof(mr74_power_answer, value) == 16);
 MR74_LAYOUT(sizeof(mr74_record_answer) == 40 && offsetof(mr74_record_answer, from) == 24);

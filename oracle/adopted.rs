@@ -28,6 +28,8 @@ const CHANGES: &[Change] = &[
         from: "#[derive(Debug, Clone, PartialEq, Eq)]\npub struct PreparedSubframe {",
         to: "#[derive(Debug, Clone, Default, PartialEq, Eq)]\npub struct WeightedSpeechFilter {",
         new: "pub use ::mr74::encoder_filtering::{PreparedSubframe, prepare, residual};\n" },
+    Change { file: "encoder_stability.rs", from: "", to: "",
+        new: "pub(super) use ::mr74::encoder_stability::Stability;\n" },
     Change { file: "pitch.rs",
         from: "#[derive(Debug, Clone, Copy, PartialEq, Eq)]\npub enum Fraction {",
         to: "pub fn decode_frame(",
@@ -49,20 +51,21 @@ const CHANGES: &[Change] = &[
     Change { file: "gain/quantization.rs",
         from: "const WORD_SHIFT: ",
         to: "#[derive(Debug, Clone, Copy, PartialEq, Eq)]\npub struct QuantizedGain {",
-        new: "pub use ::mr74::gain::quantization::{GainLimit, PitchGain, pitch_gain};\n" },
+        new: "use ::mr74::encoder_stability::Stability;
+pub use ::mr74::gain::quantization::{GainLimit, PitchGain, pitch_gain};\n" },
+    Change { file: "gain/quantization.rs",
+        from: "        limit: GainLimit,\n",
+        to: "    ) -> QuantizedGain {",
+        new: "        stability: &mut Stability,\n        pitch_gain_q14: i16,\n" },
     Change { file: "gain/quantization.rs",
         from: "        let correlations = pitch_gain(",
         to: "        let gains = self",
         new: "        let prediction = self.decoder.predict(innovation_q13);
-        let index = ::mr74::gain::quantization::quantize(
-            target,
-            adaptive,
-            filtered_innovation_q12,
-            prediction,
-            limit,
-        )
-        .expect(\"a prediction is in its range\")
-        .index;\n" },
+        let index = stability
+            .quantize(target, adaptive, filtered_innovation_q12, prediction, pitch_gain_q14)
+            .expect(\"a prediction is in its range\")
+            .row
+            .index;\n" },
     Change { file: "gain/quantization.rs", from: "fn energy_coefficients(", to: "", new: "" },
     Change { file: "encoder.rs",
         from: "    codebook::search,\n",
@@ -81,6 +84,22 @@ const CHANGES: &[Change] = &[
         to: ";",
         new: "                self.sharpening_q14,\n            )
             .map_err(EncodeError::Pitch)?" },
+    Change { file: "encoder.rs",
+        from: "        let resonant = ",
+        to: "self.stability",
+        new: "        " },
+    Change { file: "encoder.rs",
+        from: "self.stability.limit(",
+        to: "gain.gain_q14",
+        new: "self.stability.limit(" },
+    Change { file: "encoder.rs",
+        from: "                limit,\n",
+        to: "            );",
+        new: "                &mut self.stability,\n                gain.gain_q14,\n" },
+    Change { file: "encoder.rs",
+        from: "            self.stability.commit_gain(",
+        to: "            self.sharpening_q14 = gains",
+        new: "" },
     Change { file: "encoder.rs",
         from: "            self.sharpening_q14 = gains",
         to: "\n",

@@ -2,10 +2,10 @@
 //! linked by the Rust bindings.
 //!
 //! The published files are copied to the output folder as they stand, with the texts of
-//! `REPLACED` replaced so that private functions can be called and private fields read. A second copy
-//! is changed to call the Rust bindings, and a third has the player's upper lag. Nothing of them is
-//! kept in this repository but the few lines that `REPLACED`, `PLAYER`, `EXPRESSIONS` and adopted.rs
-//! name.
+//! `REPLACED` replaced so that private functions can be called and private fields read, and so that
+//! the encoder tells what its resonance limit does. A second copy is changed to call the Rust
+//! bindings, and a third has the player's upper lag. Nothing of them is kept in this repository but
+//! the few lines that `REPLACED`, `PLAYER`, `EXPRESSIONS` and adopted.rs name.
 
 mod adopted;
 
@@ -76,11 +76,16 @@ const fn drawn<const N: usize, const M: usize>() -> [[i16; N]; M] {
 ",
     ),
     // The analysis is not published: here the spectrum is drawn, and the samples are not delayed.
+    // In every other sixteen frames two values of the spectrum lie closely, so that it is resonant
+    // in the last five of them.
     (
         "encoder_analysis.rs",
         "use super::{lpc, spectral::{self, ConversionError, LPC_ORDER}};
 #[derive(Debug, Clone, Default, PartialEq, Eq)]
-pub struct Analyzer(u64);
+pub struct Analyzer {
+    drawn: u64,
+    frames: u32,
+}
 pub struct Analyzed {
     pub quantized: Quantized,
     pub lsp_q15: [i16; LPC_ORDER],
@@ -93,11 +98,16 @@ pub struct Quantized {
 impl Analyzer {
     pub fn push(&mut self, samples: &[i16; 160]) -> Result<Analyzed, ConversionError> {
         let mut drawn = |below: u64| {
-            self.0 = self.0.wrapping_mul(6364136223846793005).wrapping_add(1442695040888963407);
-            (self.0 >> 33) % below
+            let next = self.drawn.wrapping_mul(6364136223846793005);
+            self.drawn = next.wrapping_add(1442695040888963407);
+            (self.drawn >> 33) % below
         };
         let indices = [256, 512, 512].map(|below| drawn(below) as u16);
-        let frequencies = spectral::INITIAL_LSF_Q15.map(|lsf| lsf + drawn(600) as i16);
+        let mut frequencies = spectral::INITIAL_LSF_Q15.map(|lsf| lsf + drawn(600) as i16);
+        self.frames += 1;
+        if self.frames / 16 % 2 == 1 {
+            frequencies[5] = frequencies[4] + 205;
+        }
         let lsp_q15 = spectral::lsf_to_lsp(&frequencies)?;
         Ok(Analyzed {
             quantized: Quantized { indices },
@@ -128,6 +138,7 @@ const REPLACED: &[Replaced] = &[
     ("codebook/search.rs", "fn select(", "pub fn select(", 1),
     ("codebook/search.rs", "fn sharpen(", "pub fn sharpen(", 1),
     ("codebook/search.rs", "fn target_correlation(", "pub fn target_correlation(", 1),
+    ("encoder.rs", "            let quantized_gain =", RESONANT, 1),
     ("encoder_filtering.rs", "const GAMMA_ONE_Q15:", "pub const GAMMA_ONE_Q15:", 1),
     ("encoder_filtering.rs", "const GAMMA_TWO_Q15:", "pub const GAMMA_TWO_Q15:", 1),
     ("energy.rs", "fn doubled_product(", "pub fn doubled_product(", 1),
@@ -191,6 +202,26 @@ const REPLACED: &[Replaced] = &[
     ("spectral.rs", "fn multiply_q15(", "pub fn multiply_q15(", 1),
     ("synthesis.rs", "fn saturated(", "pub fn saturated(", 1),
 ];
+
+/// Before the row of a subframe with a resonant spectrum is chosen, tells whether it is limited,
+/// and whether it is another one without the limit.
+const RESONANT: &str = "            if resonant {
+                let row = |limit| {
+                    self.gains.clone().quantize(
+                        &prepared.target_q0,
+                        &filtered,
+                        &code.filtered_q12,
+                        &code.innovation_q13,
+                        limit,
+                    )
+                };
+                let unrestricted = quantization::GainLimit::Unrestricted;
+                crate::adopted::count_resonant(
+                    limit != unrestricted,
+                    row(limit) != row(unrestricted),
+                );
+            }
+            let quantized_gain =";
 
 /// What is replaced besides in the player's copy: the upper lag. The detector of this copy, whose
 /// history has the same length, isn't the codec's.

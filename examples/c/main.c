@@ -1,10 +1,10 @@
 /*
  * The stages of one subframe, called from C, on silence and on a voiced sound, and both readers on
  * what they send; a tuning screen, which shows an index before it is sent; a level meter of the
- * gain row, on a sound that fits and on a loud one; the pitch of an announcement player beside that
- * of a handset; and a tuning bench, which searches whole logged frames. Prints each answer, behind
- * a pitch and a lag of one subframe the start of its window, and behind a preview and a frame the
- * searcher.
+ * gain row, on a sound that fits and on a loud one; the resonance watch on a test tone; the pitch
+ * of an announcement player beside that of a handset; and a tuning bench, which searches whole
+ * logged frames. Prints each answer, behind a pitch and a lag of one subframe the start of its
+ * window, behind a preview and a frame the searcher, and behind a watched row the stored gains.
  */
 #include "mr74.h"
 #include "sound.h"
@@ -237,6 +237,81 @@ static void voiced(void)
     pitch(&kept, excitation, target, impulse, lag, 2);
 }
 
+/* What a resonance watch keeps; all 0 when fresh. */
+typedef struct {
+    uint8_t count;
+    int16_t gains_q11[MR74_STORED_GAINS];
+} watch;
+
+/* The spectrum of a frame. */
+static void observe(watch *kept, const int16_t lsp[MR74_SPECTRUM])
+{
+    mr74_spectrum_answer seen = mr74_observe_spectrum(lsp, MR74_SPECTRUM, kept->count);
+    kept->count = seen.count;
+    printf("spectrum %u%s\n", seen.count, seen.resonant ? " resonant" : "");
+}
+
+static const char *name(uint8_t limit)
+{
+    return limit == MR74_RESONANCE ? "resonance" : "unrestricted";
+}
+
+/* The gain row of a subframe under the watch, which has so many of the stored gains at hand. */
+static void watched_row(watch *kept, const int16_t target[MR74_SUBFRAME],
+                        const int16_t adaptive[MR74_SUBFRAME],
+                        const int16_t filtered[MR74_SUBFRAME], int16_t pitch_gain_q14,
+                        size_t stored)
+{
+    mr74_watched_gain_answer row =
+        mr74_watched_gain(target, MR74_SUBFRAME, adaptive, MR74_SUBFRAME, filtered, MR74_SUBFRAME,
+                          0, 0, pitch_gain_q14, kept->count, kept->gains_q11, stored);
+    printf("watched ");
+    if (row.gain.number != MR74_ACCEPTED)
+        refused(row.gain.number, row.gain.negative, row.gain.magnitude);
+    else
+        printf("%s %u %d %d\n", name(row.limit), row.gain.index, row.gain.pitch_q14,
+               row.gain.correction_q12);
+    printf("stored");
+    for (int i = 0; i < MR74_STORED_GAINS; i++)
+        printf(" %d", kept->gains_q11[i]);
+    printf("\n");
+}
+
+/*
+ * For a site with test tones: thirteen frames of a tone of 2000 Hz, and the gain rows after them.
+ * Two values of its spectrum lie closely about the tone's own cosine, which is 0.
+ */
+static void test_tone(void)
+{
+    const int16_t tone[MR74_SPECTRUM] = {31441, 27566,  21458,  13612,  600,
+                                         -600,  -13612, -21458, -27566, -31441};
+    const int16_t zeros[MR74_SUBFRAME] = {0};
+    int16_t target[MR74_SUBFRAME], adaptive[MR74_SUBFRAME];
+    for (int i = 0; i < MR74_SUBFRAME; i++) {
+        adaptive[i] = i % 2 == 0 ? 0 : i % 4 == 1 ? 8000 : -8000;
+        target[i] = (int16_t)(adaptive[i] + adaptive[i] / 8);
+    }
+    /* The rows before them had a pitch gain of 16222. */
+    watch kept = {0, {2027, 2027, 2027, 2027, 2027, 2027, 2027}};
+    for (int frame = 0; frame < 13; frame++)
+        observe(&kept, tone);
+
+    /* An encoder that limits the pitch gain before the pulses asks for the limit there. */
+    int16_t gain_q14 = mr74_pitch_gain(target, MR74_SUBFRAME, adaptive, MR74_SUBFRAME).gain_q14;
+    mr74_limit_answer limit =
+        mr74_watch_limit(gain_q14, kept.count, kept.gains_q11, MR74_STORED_GAINS);
+    printf("pitch gain %d limit %s\n", gain_q14, name(limit.limit));
+    watched_row(&kept, target, adaptive, zeros, gain_q14, MR74_STORED_GAINS);
+    /* A pitch gain of at most 15565 is not limited; it is the row's that is stored. */
+    watched_row(&kept, target, adaptive, zeros, 15565, MR74_STORED_GAINS);
+    watched_row(&kept, target, adaptive, zeros, gain_q14, MR74_STORED_GAINS);
+    /* One gain too few: nothing is written. */
+    watched_row(&kept, target, adaptive, zeros, gain_q14, MR74_STORED_GAINS - 1);
+    /* The same rows with the limits set by hand. */
+    gain_row(target, adaptive, zeros, 0, 0, MR74_RESONANCE);
+    gain_row(target, adaptive, zeros, 0, 0, MR74_UNRESTRICTED);
+}
+
 /* The largest open-loop lag of a player in subframes 1 and 2, and one more in 3. */
 static void upper_lag(mr74_pitch_state end)
 {
@@ -303,6 +378,7 @@ int main(void)
     voiced();
     rising(200);
     rising(800);
+    test_tone();
     upper_lag(mr74_fresh_player());
     upper_lag(mr74_fresh_pitch());
     logged_frames();

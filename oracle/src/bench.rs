@@ -1,7 +1,7 @@
 //! The time of every stage and of the program `select`, as a ratio to the published Rust's on the
 //! same feeds in the same run. Above 1 the library is the slower one. A frame has a ratio to the
-//! library's own six calls too, and the dispatcher to the library's own searches. Below the table
-//! is how many calls one core carries.
+//! library's own six calls too, the dispatcher to the library's own searches, and the watched gain
+//! stage to the library's own stage. Below the table is how many calls one core carries.
 
 mod dispatch;
 mod frames;

@@ -5,6 +5,7 @@
 //! have not, and are compared by their parts.
 
 mod parts;
+mod watch;
 
 use crate::{
     adopted,
@@ -97,7 +98,7 @@ fn lists() -> [Function; 6] {
     ]
 }
 
-fn chains() -> [Function; 5] {
+fn chains() -> [Function; 6] {
     const PLAYER: &str = "upper lag 120, answers and state";
     [
         Function {
@@ -131,6 +132,10 @@ fn chains() -> [Function; 5] {
                 let chain = |index| reader_chain(Upper::Player, LagReader::player(), index);
                 compare_chains(PLAYER, chain)
             },
+        },
+        Function {
+            name: "Stability",
+            compare: watch::compare,
         },
     ]
 }
@@ -173,10 +178,6 @@ pub fn pitch_gain(call: &gain::Call) -> PitchGain {
 }
 
 pub fn quantize(call: &gain::Call) -> Result<QuantizedRow, mr74::Refusal> {
-    let prediction = Prediction {
-        exponent: call.exponent,
-        fraction: call.fraction,
-    };
     let limit = match call.choice() {
         0 => GainLimit::Unrestricted,
         _ => GainLimit::Resonance,
@@ -185,9 +186,16 @@ pub fn quantize(call: &gain::Call) -> Result<QuantizedRow, mr74::Refusal> {
         &call.target,
         &call.adaptive,
         &call.filtered,
-        prediction,
+        prediction(call),
         limit,
     )
+}
+
+fn prediction(call: &gain::Call) -> Prediction {
+    Prediction {
+        exponent: call.exponent,
+        fraction: call.fraction,
+    }
 }
 
 /// A call whose lists and subframe the types admit.
@@ -357,12 +365,7 @@ pub fn compare_chains(with: &'static str, chain: fn(u64) -> Vec<Told>) -> Vec<Li
         || Line::new(with),
         |line, indexes| {
             for index in indexes {
-                for (step, [ours, other]) in chain(index).iter().enumerate() {
-                    line.compared += 1;
-                    if ours != other {
-                        line.difference(index, &("chain, step", index, step), ours, other);
-                    }
-                }
+                compare_chain(line, index, &chain(index));
             }
         },
     );
@@ -370,6 +373,15 @@ pub fn compare_chains(with: &'static str, chain: fn(u64) -> Vec<Told>) -> Vec<Li
         line.add(part);
     }
     vec![line]
+}
+
+fn compare_chain(line: &mut Line, index: u64, steps: &[Told]) {
+    for (step, [ours, other]) in steps.iter().enumerate() {
+        line.compared += 1;
+        if ours != other {
+            line.difference(index, &("chain, step", index, step), ours, other);
+        }
+    }
 }
 
 fn search_chain(upper: Upper, mut ours: Search, index: u64) -> Vec<Told> {

@@ -16,9 +16,12 @@ mod sources;
 mod ties;
 mod wished;
 
-pub use calls::{Call, SignedRefusal, recorded};
+pub use calls::{Call, LISTS, Nearest, SignedRefusal, answer, call, checked, choice, recorded};
 pub use clips::{PITCH_SUMS, SUMS};
+pub use refusals::{PAIRS, Pair, wrong_exponents};
+pub use rows::{RESONANCE_ROWS, ROWS};
 pub use sources::{Drawn, loud_call, speech_call};
+pub use wished::tone_call;
 
 use crate::{
     compare::{Function, Line, in_threads},

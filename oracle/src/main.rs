@@ -37,6 +37,7 @@ mod search;
 mod selection;
 mod speech;
 mod speed;
+mod stability;
 mod states;
 mod subframes;
 mod sums;
@@ -56,7 +57,7 @@ use std::{
 };
 
 const USAGE: &str = "usage: oracle [compare NAME.. | bindings | select [RECORDS] | answers [FEED] | \
-                     feed NAME RECORDS [SEED] | record [FOLDER] | speed | bench]";
+                     watched [FEED] | feed NAME RECORDS [SEED] | record [FOLDER] | speed | bench]";
 const RECORD_FOLDER: &str = concat!(env!("CARGO_MANIFEST_DIR"), "/../crates");
 const SAMPLE_FOLDER: &str = concat!(env!("CARGO_MANIFEST_DIR"), "/../samples");
 
@@ -72,8 +73,10 @@ fn main() -> ExitCode {
         ["bindings"] => compare_all(&bindings::functions(), &[]),
         ["select"] => compare_select(SELECT_RECORDS),
         ["select", records] => number(records).and_then(compare_select),
-        ["answers"] => print_answers(None),
-        ["answers", feed] => print_answers(Some(feed)),
+        ["answers"] => print_answers(None, selection::printed),
+        ["answers", feed] => print_answers(Some(feed), selection::printed),
+        ["watched"] => print_answers(None, selection::printed_watched),
+        ["watched", feed] => print_answers(Some(feed), selection::printed_watched),
         ["feed", name, records] => write_feed(name, records, "0"),
         ["feed", name, records, seed] => write_feed(name, records, seed),
         ["record"] => record_samples(Path::new(RECORD_FOLDER), Path::new(SAMPLE_FOLDER)),
@@ -128,6 +131,7 @@ fn compare_functions(names: &[&str]) -> Result<ExitCode, String> {
     functions.extend(filtering::functions());
     functions.extend(pulses::functions());
     functions.extend(gain::functions());
+    functions.extend(stability::functions());
     functions.extend(states::functions());
     functions.extend(selection::functions());
     for name in names {
@@ -183,15 +187,15 @@ fn compare_select(records: u64) -> Result<ExitCode, String> {
     Ok(told(compared, differ))
 }
 
-/// Prints what `select` has to print for a feed: that of the file, else that of standard input.
-fn print_answers(file: Option<&str>) -> Result<ExitCode, String> {
+/// Prints the lines of a feed: that of the file, else that of standard input.
+fn print_answers(file: Option<&str>, printed: fn(&[u8]) -> String) -> Result<ExitCode, String> {
     let mut feed = Vec::new();
     let read = match file {
         Some(file) => fs::read(file).map(|bytes| feed = bytes),
         None => io::stdin().read_to_end(&mut feed).map(|_| ()),
     };
     read.map_err(|error| format!("{}: {error}", file.unwrap_or("standard input")))?;
-    print!("{}", selection::printed(&feed));
+    print!("{}", printed(&feed));
     Ok(ExitCode::SUCCESS)
 }
 

@@ -4,10 +4,11 @@
 //! Nothing checks the declarations against the library's source; they repeat its interface.
 
 pub use mr74::entries::{
-    ChannelAnswer, ChannelState, END, FrameAnswer, FramePitch, GainAnswer, LengthAnswer, Logarithm,
-    NO_CHANNEL, OpenLoopAnswer, PitchAnswer, PitchGainAnswer, PitchState, PlacesAnswer,
-    PowerAnswer, PulsesAnswer, ServiceAnswer, SharpeningGain, StepAnswer, convolve, fresh_pitch,
-    fresh_player, log2, mark, next, open_loop, pow2, read_lag, read_pulses, residual,
+    ChannelAnswer, ChannelState, END, FrameAnswer, FramePitch, GainAnswer, LengthAnswer,
+    LimitAnswer, Logarithm, NO_CHANNEL, OpenLoopAnswer, PitchAnswer, PitchGainAnswer, PitchState,
+    PlacesAnswer, PowerAnswer, PulsesAnswer, ServiceAnswer, SharpeningGain, SpectrumAnswer,
+    StepAnswer, WatchedGainAnswer, convolve, fresh_pitch, fresh_player, log2, mark, next,
+    observe_spectrum, open_loop, pow2, read_lag, read_pulses, residual, watch_limit,
 };
 
 use mr74::entries::{self, SubframeLists};
@@ -218,6 +219,27 @@ pub fn quantize(
     limit: u8,
 ) -> GainAnswer {
     entries::quantize(target, adaptive, filtered, exponent, fraction, limit)
+}
+
+/// `quantize` within the limit that the watch chooses. The stored gains are lent, and updated there.
+pub fn watched_gain(
+    [target, adaptive, filtered]: [&[i16]; 3],
+    exponent: i16,
+    fraction: u16,
+    pitch_gain_q14: i16,
+    count: u8,
+    gains: &mut [i16],
+) -> WatchedGainAnswer {
+    entries::watched_gain(
+        target,
+        adaptive,
+        filtered,
+        exponent,
+        fraction,
+        pitch_gain_q14,
+        count,
+        gains,
+    )
 }
 
 /// The record at a place of the feed, by a searcher and a reader. The detector's old words are lent

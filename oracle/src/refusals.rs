@@ -174,7 +174,8 @@ impl<const N: usize> Refusals<N> {
     }
 }
 
-fn add_counts(counts: &mut [u64], parts: &[u64]) {
+/// Adds what another thread counted.
+pub fn add_counts(counts: &mut [u64], parts: &[u64]) {
     for (count, part) in counts.iter_mut().zip(parts) {
         *count += part;
     }

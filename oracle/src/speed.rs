@@ -1,6 +1,7 @@
 //! The time of a call, as a ratio to the published Rust in the same run.
 
 mod gain;
+mod stability;
 
 use crate::{
     codec::mr74::{
@@ -83,6 +84,7 @@ pub fn report() {
     report_filtering();
     report_pulses();
     gain::report();
+    stability::report();
 }
 
 fn report_operators() {

@@ -2,8 +2,8 @@
  * quoted standard and the package.
  *
  *   compare lines READER FEED         what select would print, were it this reader (standard, package)
- *   compare compare NAME FEED LINES   counts by kind, and the classes of the package's differences;
- *                                     tab-separated, for report.py
+ *   compare compare NAME FEED LINES   counts by kind, the classes of the package's differences, and
+ *                                     of the watch the cases met; tab-separated, for report.py
  *   compare smallest FEED LINES ..    the smallest input found of each class, as text
  *   compare feed CLASSES OUT          the inputs of a text of classes, as a feed
  *   compare classes CLASSES LINES     holds the three readers' answers to those of that text
@@ -14,40 +14,51 @@
 #include <map>
 #include <sstream>
 
+#include "cases.h"
 #include "feed.h"
 #include "smallest.h"
 
 namespace {
 
-std::vector<std::string> lines_of(const std::string &file)
+/* The Rust's lines. Their title tells whether the feed may have records of the watch. */
+struct Lines {
+    std::vector<std::string> lines;
+    int kinds;
+};
+
+Lines lines_of(const std::string &file)
 {
     std::ifstream stream(file);
-    std::vector<std::string> lines;
+    Lines told = {};
     std::string line;
-    if (!std::getline(stream, line) || line != "mr74 select") {
+    if (std::getline(stream, line))
+        told.kinds = line == "mr74 select" ? SELECTED : line == "mr74 watched" ? KINDS : 0;
+    if (told.kinds == 0) {
         std::cerr << file << ": no lines of select\n";
         exit(2);
     }
     while (std::getline(stream, line))
-        lines.push_back(line.substr(line.find(' ') + 1));
-    return lines;
+        told.lines.push_back(line.substr(line.find(' ') + 1));
+    return told;
 }
 
-/* The whole lag that a line of the Rust tells. */
-int lag_in(Kind kind, const std::string &line)
+/* The numbers that a line of the Rust tells, as far as a state is made of them. */
+answer numbers_in(const std::string &line)
 {
     std::istringstream stream(line);
     std::string name;
-    int first = 0, second = 0;
-    stream >> name >> first >> second;
-    return kind == PITCH ? second : first;
+    answer told = {};
+    stream >> name;
+    while (told.count < 1 + GAINS && stream >> told.fields[told.count])
+        told.count++;
+    return told;
 }
 
 int print_lines(const std::string &name, const std::string &file)
 {
     const reader &reader = name == package_reader.name ? package_reader : quoted_reader;
     auto bytes = read_file(file);
-    Reading reading{bytes};
+    Reading reading{bytes, SELECTED};
     Record record;
     Refusal refusal;
     State state;
@@ -60,7 +71,7 @@ int print_lines(const std::string &name, const std::string &file)
         if (!refusal.number) {
             answer told = answer_of(reader, call);
             line = line_of(call.kind, told);
-            advance(state, call, told.fields[call.kind == PITCH]);
+            advance(state, call, told.fields);
         }
         std::cout << number << ' ' << line << '\n';
     }
@@ -71,13 +82,15 @@ struct Counts {
     long compared = 0, standard = 0, package = 0;
 };
 
-/* Goes through a feed; `each` gets every call that the package answers otherwise, and its class. */
-template <typename Each>
-std::map<std::string, Counts> compared(const std::string &feed, const std::string &file, Each each)
+/* Goes through a feed; `each` gets every call, and `differing` every one that the package answers
+ * otherwise, with its class. */
+template <typename Each, typename Differing>
+std::map<std::string, Counts> compared(const std::string &feed, const std::string &file, Each each,
+                                       Differing differing)
 {
     auto bytes = read_file(feed);
-    auto lines = lines_of(file);
-    Reading reading{bytes};
+    auto [lines, kinds] = lines_of(file);
+    Reading reading{bytes, kinds};
     Record record;
     Refusal refusal;
     State state;
@@ -102,6 +115,7 @@ std::map<std::string, Counts> compared(const std::string &feed, const std::strin
         }
         Counts &count = counts[NAMES[call.kind]];
         count.compared++;
+        each(call);
         answer told = answer_of(quoted_reader, call), other = answer_of(package_reader, call);
         if (line_of(call.kind, told) != rust) {
             count.standard++;
@@ -111,9 +125,9 @@ std::map<std::string, Counts> compared(const std::string &feed, const std::strin
         }
         if (line_of(call.kind, other) != rust) {
             count.package++;
-            each(call, why(call));
+            differing(call, why(call));
         }
-        advance(state, call, lag_in(call.kind, rust));
+        advance(state, call, numbers_in(rust).fields);
     }
     if (number != lines.size()) {
         std::cerr << feed << ": more lines than records\n";
@@ -125,15 +139,17 @@ std::map<std::string, Counts> compared(const std::string &feed, const std::strin
 int print_counts(const std::string &name, const std::string &feed, const std::string &lines)
 {
     std::map<std::pair<std::string, std::string>, long> classes;
-    auto counts = compared(feed, lines, [&](const Call &call, const char *where) {
-        classes[{NAMES[call.kind], where}]++;
-    });
+    Cases cases;
+    auto counts = compared(
+        feed, lines, [&](const Call &call) { cases.count(call); },
+        [&](const Call &call, const char *where) { classes[{NAMES[call.kind], where}]++; });
     for (auto &[kind, count] : counts)
         std::cout << "count\t" << name << '\t' << kind << '\t' << count.compared << '\t'
                   << count.standard << '\t' << count.package << '\n';
     for (auto &[kind, count] : classes)
         std::cout << "class\t" << name << '\t' << kind.first << '\t' << kind.second << '\t' << count
                   << '\n';
+    cases.print(std::cout, name);
     return 0;
 }
 
@@ -145,11 +161,13 @@ int print_smallest(const std::vector<std::string> &files)
     std::map<std::string, std::vector<Call>> found;
     for (size_t i = 0; i + 1 < files.size(); i += 2) {
         std::map<std::string, size_t> taken;
-        compared(files[i], files[i + 1], [&](const Call &call, const char *where) {
-            std::string name = std::string(NAMES[call.kind]) + ": " + where;
-            if (taken[name]++ < TRIED)
-                found[name].push_back(call);
-        });
+        compared(
+            files[i], files[i + 1], [](const Call &) {},
+            [&](const Call &call, const char *where) {
+                std::string name = std::string(NAMES[call.kind]) + ": " + where;
+                if (taken[name]++ < TRIED)
+                    found[name].push_back(call);
+            });
     }
     for (auto &[name, calls] : found)
         print_class(std::cout, name, smallest(calls));
@@ -177,6 +195,6 @@ int main(int count, char **words)
     if (w.size() == 3 && w[0] == "feed")
         return write_classes(w[1], w[2]);
     if (w.size() == 3 && w[0] == "classes")
-        return check_classes(w[1], lines_of(w[2]));
+        return check_classes(w[1], lines_of(w[2]).lines);
     return usage();
 }

@@ -96,18 +96,36 @@ QUOTED = [
         "calc_filt_energies",
         (r"\n *gcu = <xn2, y2> / c\[2\](\n *= .*)+\n", "\n", 1),
     ),
+    quoted("enc/src/ton_stab.cpp", 1, "ton_stab_reset"),
+    quoted("enc/src/ton_stab.cpp", 3, "check_lsp"),
+    quoted("enc/src/ton_stab.cpp", 4, "check_gp_clipping"),
+    quoted("enc/src/ton_stab.cpp", 5, "update_gp_clipping"),
 ]
 
-# ---- the window of the lag reader, a part of a longer quotation
-WINDOW = dict(
-    file="dec/src/dec_amr.cpp",
-    start="delta_frc_low = 5;",
-    end="Dec_lag3 (",
-    head="void lag_window(enum Mode mode, Word16 old_T0, Word16 *min, Word16 *max)\n"
-    "{\n    Word16 delta_frc_low, delta_frc_range, t0_min, t0_max;\n    ",
-    foot="*min = t0_min;\n    *max = t0_max;\n}\n",
-    mends=[(r"st->old_T0", "old_T0", 1)],
-)
+# ---- parts of longer quotations: the window of the lag reader, the limit of the pitch gain
+PARTS = [
+    dict(
+        file="dec/src/dec_amr.cpp",
+        name="lag_window",
+        start="delta_frc_low = 5;",
+        end="Dec_lag3 (",
+        head="void lag_window(enum Mode mode, Word16 old_T0, Word16 *min, Word16 *max)\n"
+        "{\n    Word16 delta_frc_low, delta_frc_range, t0_min, t0_max;\n    ",
+        foot="*min = t0_min;\n    *max = t0_max;\n}\n",
+        mends=[(r"st->old_T0", "old_T0", 1)],
+    ),
+    dict(
+        file="enc/src/cl_ltp.cpp",
+        name="gain_limit",
+        start="gpc_flag = 0;",
+        end="// update target vector und evaluate LTP residual",
+        head="void gain_limit(tonStabState *tonSt, enum Mode mode, Word16 lsp_flag, "
+        "Word16 *gain_pit, Word16 **anap, Word16 *gp_limit)\n"
+        "{\n    Word16 gpc_flag;\n   ",
+        foot="}\n",
+        mends=[],
+    ),
+]
 
 # ---- what stands in: file, functions in the order of their text, how many operators are put back, and
 # own changes. In the last three files nothing is put back: what can clip there is called as an operator
@@ -167,7 +185,8 @@ def all_changed(text, changes):
 def sections(text):
     """The texts that comments headed PSEUDO-CODE quote."""
     return [
-        re.split(RULE, part, maxsplit=1)[0] for part in re.split(r"\n[ \t]*PSEUDO-CODE[ \t]*\n", text)[1:]
+        re.split(RULE, part, maxsplit=1)[0]
+        for part in re.split(r"\n[ \t]*PSEUDO-CODE(?: FOR \w+)?[ \t]*\n", text)[1:]
     ]
 
 
@@ -211,19 +230,21 @@ def main():
         if entry["head"]:
             text = head_of(read(entry["file"]), entry["name"]) + "\n" + text
         else:
-            start = re.search(r"(?m)^(#ifdef VAD2\n)?(static )?(void|Word16|Word32)\s", text)
+            start = re.search(r"(?m)^(#ifdef VAD2\n)?(static )?(void|int|Word16|Word32)\s", text)
             if not start:
                 fail(where)
             text = text[start.start() :]
         text = changed(text, entry["mends"], where)
         texts.append((entry["name"], all_changed(text, UNFRAMED + COMMON) + "\n" + entry["end"]))
 
-    quotations = [text for text in sections(read(WINDOW["file"])) if WINDOW["start"] in text]
-    if len(quotations) != 1:
-        fail(WINDOW["file"])
-    text = quotations[0][quotations[0].index(WINDOW["start"]) :]
-    text = changed(text[: text.index(WINDOW["end"])], WINDOW["mends"], WINDOW["file"])
-    texts.append(("lag_window", WINDOW["head"] + all_changed(text, UNFRAMED + COMMON) + WINDOW["foot"]))
+    for part in PARTS:
+        quotations = [text for text in sections(read(part["file"])) if part["start"] in text]
+        if len(quotations) != 1:
+            fail(part["file"])
+        text = quotations[0][quotations[0].index(part["start"]) :]
+        text = changed(text[: text.index(part["end"])], part["mends"], part["file"])
+        text = part["head"] + all_changed(text, UNFRAMED + COMMON) + part["foot"]
+        texts.append((part["name"], text))
 
     for entry in STAND_INS:
         codes = [(name, code_of(read(entry["file"]), name)) for name in entry["names"]]

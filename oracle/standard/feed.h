@@ -1,4 +1,6 @@
-/* Feeds, their records, and what a reader's line says: 01, "Feed and program". */
+/* Feeds, their records, and what a reader's line says: 01, "Feed and program". Behind the kinds of
+ * 01 are those of the resonance watch, which select does not know: oracle/src/selection/watched.rs
+ * has their bodies and lines. */
 #ifndef FEED_H
 #define FEED_H
 
@@ -11,9 +13,16 @@
 
 #include "readers.h"
 
-inline const char *const NAMES[] = {"reset", "open", "pitch", "pulses", "gain", "filter", "lag"};
-enum Kind { RESET, OPEN, PITCH, PULSES, GAIN, FILTER, LAG, KINDS };
-inline const size_t BODIES[] = {0, 160, 551, 163, 245, 184, 2};
+inline const char *const NAMES[] = {"reset", "open",  "pitch", "pulses",   "gain",  "filter",
+                                    "lag",   "fresh", "watch", "spectrum", "limit", "commit"};
+enum Kind {
+    RESET, OPEN, PITCH, PULSES, GAIN, FILTER, LAG,
+    FRESH, WATCH, SPECTRUM, LIMIT, COMMIT, KINDS
+};
+inline const size_t BODIES[] = {0, 160, 551, 163, 245, 184, 2, 0, 15, 20, 2, 2};
+
+/* The kinds that select knows. */
+const int SELECTED = FRESH;
 
 struct Record {
     uint8_t kind;
@@ -26,11 +35,12 @@ struct Refusal {
     int detail;
 };
 
-/* Detector, searcher and lag reader. */
+/* Detector, searcher, lag reader and resonance watch. */
 struct State {
     int16_t history[HISTORY] = {};
     int16_t searched = 40, expected = 1;
     int16_t read = 40, due = 1;
+    watch_state watched = {};
 };
 
 /* A record with the state before it, as the readers take it. */
@@ -42,6 +52,7 @@ struct Call {
     gain_call gain;
     filter_call filter;
     lag_call lag;
+    watch_call watched;
 };
 
 inline int16_t word(const uint8_t *bytes)
@@ -66,9 +77,10 @@ inline std::vector<uint8_t> read_file(const std::string &name)
     return {std::istreambuf_iterator<char>(file), {}};
 }
 
-/* The next record of a feed; false at its end. Numbers 9 and 10 end it too. */
+/* The next record of a feed, of so many kinds; false at its end. Numbers 9 and 10 end it too. */
 struct Reading {
     const std::vector<uint8_t> &bytes;
+    int kinds;
     size_t at = 0;
 
     bool next(Record &record, Refusal &refusal)
@@ -79,7 +91,7 @@ struct Reading {
         record.body = bytes.data() + at;
         refusal = {0, 0};
         size_t left = bytes.size() - at;
-        if (record.kind >= KINDS)
+        if (record.kind >= kinds)
             refusal = {9, record.kind};
         else if (left < BODIES[record.kind])
             refusal = {10, int(left)};
@@ -161,6 +173,23 @@ inline Refusal call_of(const Record &record, const State &state, Call &call)
         if (body[0] % 2 == 0 && body[1] > 31)
             return {5, body[1]};
         break;
+    case WATCH:
+        call.watched.state.count = *body++;
+        call.watched.state.resonant = call.watched.state.count >= 12;
+        words(body, call.watched.state.gains, GAINS);
+        break;
+    case FRESH:
+        call.watched.state = state.watched;
+        break;
+    case SPECTRUM:
+        call.watched.state = state.watched;
+        words(body, call.watched.spectrum, ORDER);
+        break;
+    case LIMIT:
+    case COMMIT:
+        call.watched.state = state.watched;
+        call.watched.gain = word(body);
+        break;
     default:
         break;
     }
@@ -177,6 +206,10 @@ inline answer answer_of(const reader &reader, const Call &call)
     case GAIN: reader.gain(&call.gain, &told); break;
     case FILTER: reader.filter(&call.filter, &told); break;
     case LAG: reader.lag(&call.lag, &told); break;
+    case FRESH: reader.fresh(&call.watched, &told); break;
+    case SPECTRUM: reader.spectrum(&call.watched, &told); break;
+    case LIMIT: reader.limit(&call.watched, &told); break;
+    case COMMIT: reader.commit(&call.watched, &told); break;
     default: break;
     }
     return told;
@@ -201,9 +234,10 @@ inline std::string line_of(const Refusal &refusal)
     return "refused " + std::to_string(refusal.number) + ' ' + std::to_string(refusal.detail);
 }
 
-/* The state after a call that was answered so. */
-inline void advance(State &state, const Call &call, int lag)
+/* The state after a call that was answered by these numbers. */
+inline void advance(State &state, const Call &call, const int32_t *fields)
 {
+    watch_state &watched = state.watched;
     switch (call.kind) {
     case RESET:
         state = State();
@@ -212,12 +246,27 @@ inline void advance(State &state, const Call &call, int lag)
         std::copy(call.words + HALF_FRAME, call.words + HALF_FRAME + HISTORY, state.history);
         break;
     case PITCH:
-        state.searched = lag;
+        state.searched = fields[1];
         state.expected = call.pitch.subframe % 4 + 1;
         break;
     case LAG:
-        state.read = lag;
+        state.read = fields[0];
         state.due = call.lag.subframe % 4 + 1;
+        break;
+    case FRESH:
+        watched.resonant = 0;
+        watched.count = fields[0];
+        std::copy(fields + 1, fields + 1 + GAINS, watched.gains);
+        break;
+    case WATCH:
+        watched = call.watched.state;
+        break;
+    case SPECTRUM:
+        watched.resonant = fields[0];
+        watched.count = fields[1];
+        break;
+    case COMMIT:
+        std::copy(fields, fields + GAINS, watched.gains);
         break;
     default:
         break;
@@ -232,6 +281,7 @@ inline const char *why(const Call &call)
     case PULSES: return why_pulses(&call.pulses);
     case GAIN: return why_gain(&call.gain);
     case FILTER: return why_filter(&call.filter);
+    case SPECTRUM: return why_spectrum(&call.watched);
     default: return "elsewhere";
     }
 }

@@ -12,6 +12,7 @@ typedef int16_t Word16;
 typedef int32_t Word32;
 typedef int Flag;
 
+#define MAX_16 ((Word16)0x7fff)
 #define MAX_32 ((Word32)0x7fffffffL)
 #define MIN_32 (-MAX_32 - 1)
 
@@ -26,7 +27,8 @@ extern Flag Overflow;
 extern long clippings, awaited_clipping;
 extern struct clipping told_clipping;
 
-/* A difference that is only compared has no name: it is clipped, and no answer feels it. */
+/* A difference has no name: it is only compared, so that no answer feels that it was clipped. The
+ * gaps of check_lsp are kept: package.cpp looks at those itself. */
 static inline void clipped(const char *name, int line)
 {
     Overflow = 1;

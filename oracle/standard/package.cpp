@@ -16,6 +16,7 @@
 #include "residu.h"
 #include "spreproc.h"
 #include "syn_filt.h"
+#include "ton_stab.h"
 #include "weight_a.h"
 
 #include <stdio.h>
@@ -133,6 +134,63 @@ void lag(const lag_call *call, answer *told)
     told->fields[1] = fraction;
 }
 
+tonStabState watch_of(const watch_call &call)
+{
+    static_assert(N_FRAME == GAINS, "the gains of a watch");
+    tonStabState state = {};
+    state.count = call.state.count;
+    memcpy(state.gp, call.state.gains, sizeof state.gp);
+    return state;
+}
+
+void tell_gains(const tonStabState &state, answer *told)
+{
+    for (Word16 gain : state.gp)
+        told->fields[told->count++] = gain;
+}
+
+void fresh(const watch_call *call, answer *told)
+{
+    tonStabState state = watch_of(*call);
+    ton_stab_reset(&state);
+    told->count = 1;
+    told->fields[0] = state.count;
+    tell_gains(state, told);
+}
+
+void spectrum(const watch_call *call, answer *told)
+{
+    tonStabState state = watch_of(*call);
+    Word16 words[ORDER];
+    Flag overflow = 0;
+    memcpy(words, call->spectrum, sizeof words);
+    told->count = 2;
+    told->fields[0] = check_lsp(&state, words, &overflow);
+    told->fields[1] = state.count;
+}
+
+/* The package chooses the limit inside its cl_ltp, which searches the lag too; that choice is written
+ * again here, about its check_gp_clipping. */
+void limit(const watch_call *call, answer *told)
+{
+    tonStabState state = watch_of(*call);
+    Flag overflow = 0;
+    bool limited = call->state.resonant != 0 && (Word32)call->gain > GP_CLIP
+                   && check_gp_clipping(&state, call->gain, &overflow) != 0;
+    told->count = 2;
+    told->fields[0] = limited ? GP_CLIP : MAX_16;
+    told->fields[1] = limited ? GP_CLIP : call->gain;
+}
+
+void commit(const watch_call *call, answer *told)
+{
+    tonStabState state = watch_of(*call);
+    Flag overflow = 0;
+    update_gp_clipping(&state, call->gain, &overflow);
+    told->count = 0;
+    tell_gains(state, told);
+}
+
 /* ---- where it leaves the standard */
 
 template <typename T, int N> bool same(const T (&left)[N], const T (&right)[N])
@@ -180,7 +238,8 @@ template <typename Make> const char *told_at(const char *function, int place, Ma
 
 extern "C" {
 
-const reader package_reader = {"package", open, pitch, pulses, gain, filter, lag};
+const reader package_reader = {"package", open,  pitch,    pulses, gain,  filter,
+                               lag,       fresh, spectrum, limit,  commit};
 
 const char *why_open(const int16_t *words)
 {
@@ -371,6 +430,22 @@ const char *why_filter(const filter_call *given)
     memcpy(&speech[ORDER], input, sizeof input);
     (text = residual(weights[0][0])) || (text = synthesis(weights[1][0], call.weighting));
     return text ? text : "subframePreProc";
+}
+
+/* Where the first of the gaps is clipped, in the order of the text: operators.h doesn't tell it. */
+const char *why_spectrum(const watch_call *call)
+{
+    auto clips = [&](int i) {
+        int gap = call->spectrum[i] - call->spectrum[i + 1];
+        return gap != Word16(gap);
+    };
+    for (int i = 3; i < M - 2; i++)
+        if (clips(i))
+            return "check_lsp, sub clips in an upper gap";
+    for (int i = 1; i < 3; i++)
+        if (clips(i))
+            return "check_lsp, sub clips in a lower gap";
+    return "check_lsp";
 }
 
 } // extern "C"

@@ -10,7 +10,7 @@
 extern "C" {
 #endif
 
-enum { SUBFRAME = 40, HISTORY = 143, HALF_FRAME = 80, PAST = 154, ORDER = 10 };
+enum { SUBFRAME = 40, HISTORY = 143, HALF_FRAME = 80, PAST = 154, ORDER = 10, GAINS = 7 };
 
 struct pitch_call {
     int16_t previous, subframe;
@@ -36,6 +36,17 @@ struct lag_call {
     int16_t previous, subframe, index;
 };
 
+/* The resonance watch, and whether the spectrum that it saw last was resonant. */
+struct watch_state {
+    int16_t resonant, count, gains[GAINS];
+};
+
+/* A call on the watch: of a spectrum, or of a pitch gain. */
+struct watch_call {
+    struct watch_state state;
+    int16_t spectrum[ORDER], gain;
+};
+
 struct answer {
     int count;
     int32_t fields[4 * SUBFRAME];
@@ -49,6 +60,11 @@ struct reader {
     void (*gain)(const struct gain_call *call, struct answer *answer);
     void (*filter)(const struct filter_call *call, struct answer *answer);
     void (*lag)(const struct lag_call *call, struct answer *answer);
+    /* Of the watch: made fresh, a spectrum seen, a pitch gain limited, the row's gain stored. */
+    void (*fresh)(const struct watch_call *call, struct answer *answer);
+    void (*spectrum)(const struct watch_call *call, struct answer *answer);
+    void (*limit)(const struct watch_call *call, struct answer *answer);
+    void (*commit)(const struct watch_call *call, struct answer *answer);
 };
 
 extern const struct reader quoted_reader, package_reader;
@@ -60,6 +76,7 @@ const char *why_pitch(const struct pitch_call *call);
 const char *why_pulses(const struct pulse_call *call);
 const char *why_gain(const struct gain_call *call);
 const char *why_filter(const struct filter_call *call);
+const char *why_spectrum(const struct watch_call *call);
 
 #ifdef __cplusplus
 }

@@ -4,8 +4,9 @@
 import sys
 from collections import Counter
 
-FEEDS = ["mixed", "extreme", "speech", "truncated", "sample"]
-KINDS = ["reset", "open", "pitch", "pulses", "gain", "filter", "lag", "refused"]
+FEEDS = ["mixed", "extreme", "speech", "truncated", "sample", "watch"]
+KINDS = ["reset", "open", "pitch", "pulses", "gain", "filter", "lag"]
+KINDS += ["fresh", "watch", "spectrum", "limit", "commit", "refused"]
 
 
 def row(cells):
@@ -35,6 +36,7 @@ def names_of(file):
 def main():
     names = names_of(sys.argv[1])
     compared, standard, package, classes = Counter(), Counter(), Counter(), Counter()
+    cases = Counter()
     for name in sys.argv[2:]:
         for line in open(name):
             what, feed, kind, *rest = line.rstrip("\n").split("\t")
@@ -42,6 +44,8 @@ def main():
                 compared[feed, kind] += int(rest[0])
                 standard[feed, kind] += int(rest[1])
                 package[feed, kind] += int(rest[2])
+            elif what == "case":
+                cases[kind, rest[0]] += int(rest[1])
             else:
                 classes[feed, kind, names.get((kind, rest[0]), rest[0])] += int(rest[1])
 
@@ -73,8 +77,14 @@ def main():
         counts = [classes[feed, KINDS[kind], name] for feed in FEEDS]
         rows.append([KINDS[kind], name] + counts + [sum(counts)])
     table(["kind", "where"] + FEEDS + ["all"], rows)
+    print("Cases that the records of the watch must meet:\n")
+    table(["kind", "case", "records"], [[*case, count] for case, count in cases.items()])
+    never = [f"{kind}: {case}" for (kind, case), count in cases.items() if count == 0]
+    never += [kind for kind in KINDS if over(compared, [kind]) == 0]
+    for case in never:
+        print(f"never met: {case}")
     print(f"{totals[0]} compared, standard {totals[1]} differ, package {totals[2]} differ")
-    sys.exit(1 if totals[1] else 0)
+    sys.exit(1 if totals[1] or never else 0)
 
 
 main()

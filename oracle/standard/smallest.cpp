@@ -51,6 +51,11 @@ const std::vector<Field> &fields_of(Kind kind)
          {"error", ORDER, 2, 0},
          {"weighting", ORDER, 2, 0}},
         {{"subframe", 1, 1, 1}, {"index", 1, 1, 0}},
+        {},
+        {{"count", 1, 1, 0}, {"gains", GAINS, 2, 0}},
+        {{"words", ORDER, 2, 0}},
+        {{"gain", 1, 2, 0}},
+        {{"gain", 1, 2, 0}},
     };
     return fields[kind];
 }
@@ -99,6 +104,10 @@ std::vector<Part> parts_of(Call &call)
         add(call.filter.quantized, ORDER + 1);
         add(call.filter.error, ORDER);
         add(call.filter.weighting, ORDER);
+        break;
+    case SPECTRUM:
+        add(&call.watched.state.count, 1, 0, 0, 255);
+        add(call.watched.spectrum, ORDER);
         break;
     default:
         break;
@@ -271,6 +280,8 @@ void print_record(std::ostream &out, const Call &call)
         }
         return;
     }
+    if (call.kind == SPECTRUM && call.watched.state.count != 0)
+        out << NAMES[WATCH] << " count=" << call.watched.state.count << '\n';
     out << NAMES[call.kind];
     switch (call.kind) {
     case PITCH:
@@ -302,6 +313,9 @@ void print_record(std::ostream &out, const Call &call)
         print_words(out, "quantized", call.filter.quantized, ORDER + 1);
         print_words(out, "error", call.filter.error, ORDER);
         print_words(out, "weighting", call.filter.weighting, ORDER);
+        break;
+    case SPECTRUM:
+        print_words(out, "words", call.watched.spectrum, ORDER);
         break;
     default:
         break;
@@ -462,7 +476,7 @@ int check_classes(const std::string &file, const std::vector<std::string> &lines
             package = answer_of(package_reader, call);
             while (rust.count < standard.count && stream >> rust.fields[rust.count])
                 rust.count++;
-            advance(state, call, rust.fields[call.kind == PITCH]);
+            advance(state, call, rust.fields);
         }
         bool alike = line_of(call.kind, standard) == line_of(call.kind, rust);
         std::string own = told(call.kind, rust, package), other = told(call.kind, package, rust);

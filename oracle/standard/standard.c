@@ -50,6 +50,8 @@ int clipping_line(void)
 #define L_INTER_SRCH 4
 #define UP_SAMP_MAX 6
 #define THRESHOLD 27853
+#define GP_CLIP 15565
+#define N_FRAME 7
 #define VQ_SIZE_HIGHRATES 128
 #define VQ_SIZE_LOWRATES 64
 #define _1_2 16384
@@ -65,6 +67,11 @@ typedef struct {
     Word16 T0_prev_subframe;
 } Pitch_frState;
 
+typedef struct {
+    Word16 count;
+    Word16 gp[N_FRAME];
+} tonStabState;
+
 /* Tables, which the package has as symbols. */
 extern const Word16 inv_sqrt_tbl[], pow2_tbl[], inter_6[], gray[], table_gain_highrates[];
 
@@ -76,6 +83,11 @@ extern const Word16 inv_sqrt_tbl[], pow2_tbl[], inter_6[], gray[], table_gain_hi
 #define hp_max(corr, signal, length, longest, shortest, value)
 #define vad_complex_detection_update(state, value)
 #define Enc_lag6(lag, fraction, start, relative) 0
+#define q_gain_pitch(mode, limit, gain, candidates, index) 0
+
+/* Not quoted: a list's words copied, or set to 0. */
+#define Copy(from, to, length) memmove((to), (from), (length) * sizeof(Word16))
+#define Set_zero(list, length) memset((list), 0, (length) * sizeof(Word16))
 
 #define Inv_sqrt quoted_Inv_sqrt
 #define Pow2 quoted_Pow2
@@ -104,6 +116,10 @@ extern const Word16 inv_sqrt_tbl[], pow2_tbl[], inter_6[], gray[], table_gain_hi
 #define Qua_gain quoted_Qua_gain
 #define Dec_lag3 quoted_Dec_lag3
 #define subframePreProc quoted_subframePreProc
+#define ton_stab_reset quoted_ton_stab_reset
+#define check_lsp quoted_check_lsp
+#define check_gp_clipping quoted_check_gp_clipping
+#define update_gp_clipping quoted_update_gp_clipping
 
 /* Called above their text. */
 void cor_h_x2(Word16 *, Word16 *, Word16 *, Word16, Word16, Word16);
@@ -222,6 +238,57 @@ static void quoted_lag(const struct lag_call *call, struct answer *answer)
     answer->fields[1] = fraction;
 }
 
+static tonStabState watch_of(const struct watch_call *call)
+{
+    tonStabState state = {.count = call->state.count};
+    memcpy(state.gp, call->state.gains, sizeof state.gp);
+    return state;
+}
+
+static void tell_gains(const tonStabState *state, struct answer *answer)
+{
+    for (int i = 0; i < N_FRAME; i++)
+        answer->fields[answer->count++] = state->gp[i];
+}
+
+static void quoted_fresh(const struct watch_call *call, struct answer *answer)
+{
+    tonStabState state = watch_of(call);
+    ton_stab_reset(&state);
+    answer->count = 1;
+    answer->fields[0] = state.count;
+    tell_gains(&state, answer);
+}
+
+static void quoted_spectrum(const struct watch_call *call, struct answer *answer)
+{
+    tonStabState state = watch_of(call);
+    Word16 spectrum[M];
+    memcpy(spectrum, call->spectrum, sizeof spectrum);
+    answer->count = 2;
+    answer->fields[0] = check_lsp(&state, spectrum);
+    answer->fields[1] = state.count;
+}
+
+static void quoted_limit(const struct watch_call *call, struct answer *answer)
+{
+    tonStabState state = watch_of(call);
+    Word16 gain = call->gain, limit;
+    gain_limit(&state, MR74, call->state.resonant, &gain, NULL, &limit);
+    answer->count = 2;
+    answer->fields[0] = limit;
+    answer->fields[1] = gain;
+}
+
+static void quoted_commit(const struct watch_call *call, struct answer *answer)
+{
+    tonStabState state = watch_of(call);
+    update_gp_clipping(&state, call->gain);
+    answer->count = 0;
+    tell_gains(&state, answer);
+}
+
 const struct reader quoted_reader = {
-    "standard", quoted_open, quoted_pitch, quoted_pulses, quoted_gain, quoted_filter, quoted_lag,
+    "standard",   quoted_open,  quoted_pitch,    quoted_pulses, quoted_gain,   quoted_filter,
+    quoted_lag,   quoted_fresh, quoted_spectrum, quoted_limit,  quoted_commit,
 };

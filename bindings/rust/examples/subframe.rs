@@ -1,8 +1,8 @@
 //! The stages of one subframe, on silence and on a voiced sound, and both readers on what they
 //! send; a tuning screen, which shows an index before it is sent; a level meter of the gain row, on
-//! a sound that fits and on a loud one; the pitch of an announcement player beside that of a
-//! handset; and a tuning bench, which searches whole logged frames: the same lines as
-//! examples/c/main.c prints.
+//! a sound that fits and on a loud one; the resonance watch on a test tone; the pitch of an
+//! announcement player beside that of a handset; and a tuning bench, which searches whole logged
+//! frames: the same lines as examples/c/main.c prints.
 
 mod sound;
 
@@ -13,6 +13,7 @@ use mr74::{
         search::{SharpeningGain, search},
     },
     encoder_filtering::{COEFFICIENTS, INPUT_SAMPLES, LPC_ORDER, prepare, residual},
+    encoder_stability::{Stability, WatchedRow},
     entries,
     gain::quantization::{GainLimit, PitchClips, Prediction, pitch_gain, quantize},
     logarithm::{log2, pow2},
@@ -310,6 +311,74 @@ fn rising(step: i16) -> Result<(), Refusal> {
     Ok(())
 }
 
+fn name(limit: GainLimit) -> &'static str {
+    match limit {
+        GainLimit::Unrestricted => "unrestricted",
+        GainLimit::Resonance => "resonance",
+    }
+}
+
+fn print_stored(watch: &Stability) {
+    let stored = watch.gains_q11.map(|gain| gain.to_string());
+    println!("stored {}", stored.join(" "));
+}
+
+/// For a site with test tones: thirteen frames of a tone of 2000 Hz, and the gain rows after them.
+/// Two values of its spectrum lie closely about the tone's own cosine, which is 0.
+fn test_tone() -> Result<(), Refusal> {
+    const TONE: [i16; LPC_ORDER] = [
+        31441, 27566, 21458, 13612, 600, -600, -13612, -21458, -27566, -31441,
+    ];
+    let zeros = [0; SUBFRAME_SAMPLES];
+    let adaptive: Words = std::array::from_fn(|i| [0, 8000, 0, -8000][i % 4]);
+    let target = adaptive.map(|word| word + word / 8);
+    let prediction = Prediction {
+        exponent: 0,
+        fraction: 0,
+    };
+    // The rows before them had a pitch gain of 16222.
+    let mut watch = Stability {
+        gains_q11: [2027; 7],
+        ..Stability::default()
+    };
+    for _ in 0..13 {
+        let resonant = watch.observe_spectrum(&TONE);
+        let told = if resonant { " resonant" } else { "" };
+        println!("spectrum {}{told}", watch.count);
+    }
+
+    // An encoder that limits the pitch gain before the pulses asks for the limit there.
+    let gain = pitch_gain(&target, &adaptive).gain_q14;
+    println!("pitch gain {gain} limit {}", name(watch.limit(gain)));
+    // A pitch gain of at most 15565 is not limited; it is the row's that is stored.
+    for gain in [gain, 15565, gain] {
+        let WatchedRow { row, limit } =
+            watch.quantize(&target, &adaptive, &zeros, prediction, gain)?;
+        println!(
+            "watched {} {} {} {}",
+            name(limit),
+            row.index,
+            row.pitch_q14,
+            row.correction_q12
+        );
+        print_stored(&watch);
+    }
+    // One gain too few, which the type does not admit: nothing is written.
+    let (count, stored) = (watch.count, &mut watch.gains_q11[..6]);
+    let refused = entries::watched_gain(&target, &adaptive, &zeros, 0, 0, gain, count, stored).gain;
+    println!("watched refused {} {}", refused.number, refused.magnitude);
+    print_stored(&watch);
+    // The same rows with the limits set by hand.
+    gain_row(&target, &adaptive, &zeros, prediction, GainLimit::Resonance)?;
+    gain_row(
+        &target,
+        &adaptive,
+        &zeros,
+        prediction,
+        GainLimit::Unrestricted,
+    )
+}
+
 /// The largest open-loop lag of a player in subframes one and two, and one more in three.
 fn upper_lag(mut state: State) -> Result<(), Refusal> {
     let name = match state.searcher.upper {
@@ -350,6 +419,7 @@ fn main() -> Result<(), Refusal> {
     voiced()?;
     rising(200)?;
     rising(800)?;
+    test_tone()?;
     upper_lag(State::player())?;
     upper_lag(State::default())?;
     logged_frames()

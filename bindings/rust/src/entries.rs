@@ -103,6 +103,12 @@ answers! {
         target_innovation_clips: u8,
         adaptive_innovation_clips: u8,
     }
+    /// Whether the spectrum is resonant, and the count for the next call: the one that was given
+    /// where refused.
+    SpectrumAnswer { number: u8, magnitude: u64, resonant: bool, count: u8, }
+    LimitAnswer { number: u8, magnitude: u64, limit: u8, }
+    /// As `quantize` answers, and the limit that was chosen.
+    WatchedGainAnswer { gain: GainAnswer, limit: u8, }
     Logarithm { exponent: u8, fraction_q15: u16, }
     PowerAnswer { number: u8, negative: u8, magnitude: u64, value: i32, }
     /// The record's kind, or `END`, and its body's first place in the feed and length.
@@ -396,6 +402,29 @@ entries! {
         fraction: u16,
         limit: u8
     ) -> GainAnswer;
+
+    /// The spectrum has 10 words.
+    fn observe_spectrum as mr74_observe_spectrum(lsp: &[i16], count: u8) -> SpectrumAnswer;
+
+    /// The limit that `watched_gain` would choose. The gains are seven.
+    fn watch_limit as mr74_watch_limit(
+        pitch_gain_q14: i16,
+        count: u8,
+        gains: &[i16]
+    ) -> LimitAnswer;
+
+    /// `quantize` within the limit that the watch chooses by its count and its seven gains, which
+    /// are lent, and updated there. Their length is looked at last of the lists.
+    fn watched_gain as mr74_watched_gain(
+        target: &[i16],
+        adaptive: &[i16],
+        filtered_innovation_q12: &[i16],
+        exponent: i16,
+        fraction: u16,
+        pitch_gain_q14: i16,
+        count: u8,
+        gains: &mut [i16]
+    ) -> WatchedGainAnswer;
 
     /// The record at a place of a feed.
     fn record as mr74_record(feed: &[u8], at: usize) -> RecordAnswer;

@@ -3,6 +3,7 @@
 
 mod inputs;
 mod states;
+mod words;
 
 use inputs::{Drawn, SILENCE, SILENT_EXCITATION, SUBFRAMES, on_silence};
 use mr74::{

@@ -1,6 +1,7 @@
 //! The start of the last window, and the upper lag, which searcher and reader keep.
 
 mod inputs;
+mod words;
 
 use inputs::{Drawn, SILENCE, SILENT_EXCITATION, SUBFRAMES, on_silence};
 use mr74::{

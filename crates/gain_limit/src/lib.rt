@@ -36,3 +36,14 @@ impl GainLimit {
         }
     }
 }
+
+impl From<GainLimit> for u8 {
+    ghost from_gives = { λ limit result. result ≡ limit_number limit };
+
+    fn from(limit: GainLimit) -> u8 {
+        match limit {
+            GainLimit::Unrestricted => 0,
+            GainLimit::Resonance => 1,
+        }
+    }
+}

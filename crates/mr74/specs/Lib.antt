@@ -7,6 +7,7 @@ pub mod Frames
 pub mod Channels
 pub mod Pulses
 pub mod Gains
+pub mod Stabilities
 pub mod Powers
 pub mod Records
 pub mod Fields

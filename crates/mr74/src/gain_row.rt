@@ -93,7 +93,7 @@ pub extern "C" fn mr74_quantize(
     gain_answer(answer)
 }
 
-fn gain_answer(answer: Result<QuantizedGain, Refusal>) -> GainAnswer
+pub(crate) fn gain_answer(answer: Result<QuantizedGain, Refusal>) -> GainAnswer
     ensures { result ≡ gain_answer (told answer) }
 {
     match answer {

@@ -11,4 +11,5 @@ pub mod open_loop_lag;
 pub mod power;
 pub mod pulses;
 pub mod records;
+pub mod stability;
 pub mod steps;

@@ -23,7 +23,7 @@ number (Channels n) = 15
 number (Channel n) = 16
 number NoneWaits = 17
 
--- the detail of each case: what its field holds
+-- the detail of each case: what its field holds, 0 where it has none
 abbrev pub detail : Refusal → ℤ
 detail (Length n) = pos n
 detail (Subframe n) = pos n

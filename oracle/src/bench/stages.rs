@@ -17,11 +17,16 @@ use crate::{
     filtering,
     frames::{Frame, Step, logged},
     gain,
+    inputs::Random,
     open_loop::HALF_FRAME,
-    project::{PitchAnswer, preview},
+    project::{
+        GainAnswer, PitchAnswer, WatchedGainAnswer, observe_spectrum, preview, quantize,
+        watched_gain,
+    },
     pulses,
     search::{self, Searcher},
     selection::LagReader,
+    stability::{FRESH_GAINS, Gains, RESONANT, Spectrum, Staged, Watch, speech_spectrum},
     words::{EXCITATION, SUBFRAME},
 };
 use std::{hint::black_box, time::Instant};
@@ -29,8 +34,11 @@ use std::{hint::black_box, time::Instant};
 const ROUNDS: usize = 25;
 /// The rounds of two sides that do the same work.
 const EVEN_ROUNDS: usize = 300;
-/// What dispatching may cost, in hundredths of the searches.
+/// What dispatching may cost, in hundredths of the searches, and the watch, in those of the stage.
 const DISPATCH: f64 = 105.0;
+const WATCH: f64 = 105.0;
+/// The spectra that are drawn for each feed, whose records have none.
+const SPECTRA: usize = 1_000;
 /// The least time of a round, in seconds.
 const ROUND: f64 = 0.001;
 
@@ -67,7 +75,7 @@ pub struct Measured {
 /// and the gain row. Its other work is not counted, nor are the readers and the dispatcher.
 pub fn measured(feeds: &[Feed]) -> Measured {
     use Measure::*;
-    let measures: [(&str, Measure); 16] = [
+    let measures: [(&str, Measure); 19] = [
         ("open loop", Stage(HALF_FRAMES, Calls::open_loop)),
         ("pitch", Stage(SUBFRAMES, Calls::pitch)),
         ("preview", Stage(NEVER, Calls::preview)),
@@ -87,12 +95,18 @@ pub fn measured(feeds: &[Feed]) -> Measured {
         ),
         ("pulses", Stage(SUBFRAMES, Calls::pulses)),
         ("gain", Stage(SUBFRAMES, Calls::gain)),
+        ("watched gain", Stage(NEVER, Calls::watched_gain)),
+        (
+            "watched gain, the plain being 1",
+            Even(WATCH, Calls::watched_gain_to_plain),
+        ),
         ("filtering", Stage(SUBFRAMES, Calls::filtering)),
         ("residual", Stage(SUBFRAMES, Calls::residual)),
         ("convolve", Stage(SUBFRAMES, Calls::convolve)),
         ("pitch gain", Stage(SUBFRAMES, Calls::pitch_gain)),
         ("lag reader", Shown(Calls::lag_reader)),
         ("pulse reader", Shown(Calls::pulse_reader)),
+        ("spectrum", Shown(Calls::spectrum)),
     ];
     let calls: Vec<_> = feeds.iter().map(|feed| Calls::of(&feed.records)).collect();
     let mut seconds = vec![[0.0; 2]; feeds.len()];
@@ -257,6 +271,51 @@ impl Pitch {
     }
 }
 
+/// A gain record behind resonant spectra: its call within the limit that the watch chooses, and the
+/// pitch gain that its caller has.
+struct Watched {
+    call: gain::Call,
+    pitch_gain: i16,
+}
+
+impl Watched {
+    /// The records of a feed in order.
+    fn of(calls: &[gain::Call]) -> Vec<Self> {
+        let mut watch = Watch::resonant();
+        let calls = calls.iter().map(|call| {
+            let pitch_gain = call.pitch_gain().gain_q14;
+            let limit = watch.stage(call, pitch_gain).limit;
+            let call = gain::Call {
+                limit,
+                ..call.clone()
+            };
+            Self { call, pitch_gain }
+        });
+        calls.collect()
+    }
+
+    fn watched(&self, gains: &mut Gains) -> WatchedGainAnswer {
+        let call = &self.call;
+        watched_gain(
+            call.lists(),
+            call.exponent,
+            call.fraction,
+            self.pitch_gain,
+            RESONANT,
+            gains,
+        )
+    }
+
+    fn plain(&self) -> GainAnswer {
+        let call = &self.call;
+        quantize(call.lists(), call.exponent, call.fraction, call.choice())
+    }
+
+    fn published(&self, watch: &mut Watch) -> Staged {
+        watch.stage(&self.call, self.pitch_gain)
+    }
+}
+
 /// The calls of a feed's records that are accepted, of readings all.
 #[derive(Default)]
 struct Calls {
@@ -266,14 +325,18 @@ struct Calls {
     pulses: Vec<pulses::Call>,
     pulse_words: Vec<[u16; 2]>,
     gains: Vec<gain::Call>,
+    watched: Vec<Watched>,
+    spectra: Vec<Spectrum>,
     filters: Vec<filtering::Call>,
     readings: Vec<Kept<[u8; 2]>>,
 }
 
 impl Calls {
     fn of(records: &[Record]) -> Self {
+        let random = &mut Random::at(0);
         let mut calls = Self {
             frames: frames(records),
+            spectra: (0..SPECTRA).map(|_| speech_spectrum(random)).collect(),
             ..Self::default()
         };
         let mut searcher = Searcher::default();
@@ -324,6 +387,7 @@ impl Calls {
                 }),
             }
         }
+        calls.watched = Watched::of(&calls.gains);
         calls
     }
 
@@ -437,6 +501,35 @@ impl Calls {
         )
     }
 
+    fn watched_gain(&self) -> [f64; 2] {
+        times(
+            &self.watched,
+            Side {
+                fresh: || FRESH_GAINS,
+                call: |gains, stage| stage.watched(gains),
+            },
+            Side {
+                fresh: Watch::resonant,
+                call: |watch, stage| stage.published(watch),
+            },
+        )
+    }
+
+    /// To the library's own stage within the same limit, through the same entries.
+    fn watched_gain_to_plain(&self) -> f64 {
+        even_ratio(
+            &self.watched,
+            Side {
+                fresh: || FRESH_GAINS,
+                call: |gains, stage| stage.watched(gains),
+            },
+            Side {
+                fresh: || (),
+                call: |(), stage| stage.plain(),
+            },
+        )
+    }
+
     fn filtering(&self) -> [f64; 2] {
         plain!(
             &self.filters,
@@ -485,6 +578,24 @@ impl Calls {
             &self.pulse_words,
             |words| mr74::codebook::Codebook::try_new(words[0], words[1]),
             Codebook::try_new(words[0], words[1]),
+        )
+    }
+
+    fn spectrum(&self) -> [f64; 2] {
+        times(
+            &self.spectra,
+            Side {
+                fresh: || 0,
+                call: |count, lsp| {
+                    let answer = observe_spectrum(lsp, *count);
+                    *count = answer.count;
+                    answer.resonant
+                },
+            },
+            Side {
+                fresh: Watch::default,
+                call: |watch, lsp| watch.observe(lsp),
+            },
         )
     }
 }

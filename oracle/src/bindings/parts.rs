@@ -7,13 +7,13 @@ use crate::{
 };
 use mr74::{
     Refusal,
-    gain::quantization::{GainClips, PitchClips},
+    gain::quantization::{GainClips, PitchClips, QuantizedRow},
 };
 
 /// The gain, the correlations and the counts.
 type Gain = (i16, [i16; 4], [u8; PITCH_SUMS]);
 /// The index, its row of the table and the counts.
-type Row = (u16, [i16; 3], [u8; SUMS]);
+pub type Row = (u16, [i16; 3], [u8; SUMS]);
 
 pub fn of_gain(call: &Call) -> Gain {
     let gain = pitch_gain(call);
@@ -27,7 +27,10 @@ pub fn of_published_gain(call: &Call) -> Gain {
 }
 
 pub fn of_row(call: &Call) -> Result<Row, Refusal> {
-    let row = quantize(call)?;
+    quantize(call).map(row)
+}
+
+pub fn row(row: QuantizedRow) -> Row {
     let GainClips {
         energy,
         target,
@@ -37,10 +40,14 @@ pub fn of_row(call: &Call) -> Result<Row, Refusal> {
     } = row.clips();
     let numbers = [row.pitch_q14, row.correction_q12, row.energy_q10];
     let clips = [energy, target, innovation, product, cross];
-    Ok((row.index, numbers, clips))
+    (row.index, numbers, clips)
 }
 
 pub fn of_published_row(call: &Call) -> Row {
-    let index = call.quantize();
+    published_row(call, call.quantize())
+}
+
+/// The row of this index, which the published quantizer chose for the call.
+pub fn published_row(call: &Call, index: u16) -> Row {
     (index, TABLE[usize::from(index)], call.clips())
 }

@@ -45,10 +45,7 @@ impl Call {
 
     /// The number of the limit.
     pub fn choice(&self) -> u8 {
-        match self.limit {
-            GainLimit::Unrestricted => 0,
-            GainLimit::Resonance => 1,
-        }
+        choice(self.limit)
     }
 
     pub fn pitch_gain(&self) -> PitchGain {
@@ -92,8 +89,13 @@ impl Call {
         self.nearest().index
     }
 
-    /// The nearest row, by the published quantizer with the pair in place of its prediction.
+    /// The nearest row within the call's own limit.
     pub fn nearest(&self) -> Nearest {
+        self.nearest_within(self.limit)
+    }
+
+    /// The nearest row, by the published quantizer with the pair in place of its prediction.
+    pub fn nearest_within(&self, limit: GainLimit) -> Nearest {
         let quantizer = PairQuantizer {
             decoder: PairDecoder(Prediction {
                 exponent: self.exponent,
@@ -101,8 +103,16 @@ impl Call {
             }),
         };
         let (index, distance) =
-            quantizer.quantize(&self.target, &self.adaptive, &self.filtered, self.limit);
+            quantizer.quantize(&self.target, &self.adaptive, &self.filtered, limit);
         Nearest { index, distance }
+    }
+}
+
+/// The number of a limit.
+pub fn choice(limit: GainLimit) -> u8 {
+    match limit {
+        GainLimit::Unrestricted => 0,
+        GainLimit::Resonance => 1,
     }
 }
 

@@ -17,7 +17,7 @@ const LENGTHS: [usize; 8] = [0, 1, 39, SUBFRAME, 41, 80, 120, 256 + SUBFRAME];
 
 /// What a call of `quantize` is refused for: the lengths of its lists, the pair and the limit choice.
 type Refused = ([usize; LISTS], Pair, u8);
-type Pair = (i16, u16);
+pub type Pair = (i16, u16);
 
 /// Every combination of the lengths that has a wrong one, so each list is wrong alone and before
 /// others.
@@ -64,7 +64,7 @@ pub fn compare_quantize() -> Vec<Line> {
 }
 
 /// Good pairs and bad ones.
-const PAIRS: [Pair; 10] = [
+pub const PAIRS: [Pair; 10] = [
     (0, 0),
     (-128, 32767),
     (127, 0),
@@ -95,11 +95,15 @@ fn with_wrong_choices() -> Vec<Refused> {
     calls.collect()
 }
 
-/// Every wrong exponent, with good and bad fractions.
 fn with_wrong_exponents() -> Vec<Refused> {
+    with_pairs(wrong_exponents())
+}
+
+/// Every wrong exponent, with good and bad fractions.
+pub fn wrong_exponents() -> impl Iterator<Item = Pair> {
     const SOME_FRACTIONS: [u16; 4] = [0, 32767, 32768, u16::MAX];
     let exponents = (i16::MIN..=i16::MAX).filter(|exponent| !EXPONENTS.contains(exponent));
-    with_pairs(exponents.flat_map(|exponent| SOME_FRACTIONS.map(|fraction| (exponent, fraction))))
+    exponents.flat_map(|exponent| SOME_FRACTIONS.map(|fraction| (exponent, fraction)))
 }
 
 /// Every fraction, with exponents at both ends and beyond them and with both limits: the published

@@ -55,7 +55,23 @@ pub fn predicted_gain(exponent: i16, fraction: u16) -> f64 {
 pub fn held_call(random: &mut Random) -> Call {
     let adaptive = any_loudness(random);
     let factor = 1.2 + (random.below(2001) as f64 - 1000.0) / 1e6;
+    multiple_call(random, adaptive, factor)
+}
+
+/// A target that is about so many times the adaptive words.
+fn multiple_call(random: &mut Random, adaptive: [i16; SUBFRAME], factor: f64) -> Call {
     let target = adaptive.map(|word| (factor * f64::from(word)).round() as i16);
     let filtered = mixed(random);
     with_pair(random, [target, adaptive, filtered])
+}
+
+/// Words as of a steady tone: the gain lies about the resonance limit or above it, and the predicted
+/// gain of the innovation is so small that the row is the one of the nearest pitch gain.
+pub fn tone_call(random: &mut Random) -> Call {
+    let places = random.below(6) as u32;
+    let adaptive = quiet(random, places);
+    let factor = 0.85 + random.below(401) as f64 / 1000.0;
+    let call = multiple_call(random, adaptive, factor);
+    let exponent = -1 - random.below(16) as i16;
+    Call { exponent, ..call }
 }

@@ -129,7 +129,7 @@ const INDEXES: [u8; 10] = [0, 1, 30, 31, 32, 195, 196, 197, 198, 255];
 const EXPONENTS: [i16; 10] = [i16::MIN, -129, -128, -127, -1, 0, 1, 126, 127, 128];
 const FRACTIONS: [u16; 6] = [0, 1, 32766, 32767, 32768, u16::MAX];
 
-fn one_of<T: Copy, const N: usize>(random: &mut Random, values: [T; N]) -> T {
+pub fn one_of<T: Copy, const N: usize>(random: &mut Random, values: [T; N]) -> T {
     values[random.below(N as u64) as usize]
 }
 

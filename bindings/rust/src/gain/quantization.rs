@@ -1,6 +1,10 @@
 //! The pitch gain, and the choice of a row.
 
-use crate::{Refusal, SUBFRAME_SAMPLES, entries, refusal::sure};
+use crate::{
+    Refusal, SUBFRAME_SAMPLES,
+    entries::{self, GainAnswer},
+    refusal::sure,
+};
 
 const RESONANCE_LIMIT_Q14: i16 = 15565;
 
@@ -22,6 +26,14 @@ impl GainLimit {
         match self {
             Self::Unrestricted => 0,
             Self::Resonance => 1,
+        }
+    }
+
+    /// Of a number that the library hands back: 0 or 1.
+    pub(crate) fn of(choice: u8) -> Self {
+        match choice {
+            0 => Self::Unrestricted,
+            _ => Self::Resonance,
         }
     }
 }
@@ -104,6 +116,23 @@ impl QuantizedRow {
     pub fn clips(&self) -> GainClips {
         self.clips
     }
+
+    pub(crate) fn of(answer: GainAnswer) -> Result<Self, Refusal> {
+        Refusal::check_signed(answer.number, answer.negative, answer.magnitude)?;
+        Ok(Self {
+            index: answer.index,
+            pitch_q14: answer.pitch_q14,
+            correction_q12: answer.correction_q12,
+            energy_q10: answer.energy_q10,
+            clips: GainClips {
+                energy: answer.energy_clips,
+                target: answer.target_clips,
+                innovation: answer.innovation_clips,
+                target_innovation: answer.target_innovation_clips,
+                adaptive_innovation: answer.adaptive_innovation_clips,
+            },
+        })
+    }
 }
 
 /// TS 26.073 calc_filt_energies and Qua_gain for MR74: the lowest index of least distance within
@@ -115,26 +144,12 @@ pub fn quantize(
     prediction: Prediction,
     limit: GainLimit,
 ) -> Result<QuantizedRow, Refusal> {
-    let answer = entries::quantize(
+    QuantizedRow::of(entries::quantize(
         target,
         adaptive,
         filtered_innovation_q12,
         prediction.exponent,
         prediction.fraction,
         limit.choice(),
-    );
-    Refusal::check_signed(answer.number, answer.negative, answer.magnitude)?;
-    Ok(QuantizedRow {
-        index: answer.index,
-        pitch_q14: answer.pitch_q14,
-        correction_q12: answer.correction_q12,
-        energy_q10: answer.energy_q10,
-        clips: GainClips {
-            energy: answer.energy_clips,
-            target: answer.target_clips,
-            innovation: answer.innovation_clips,
-            target_innovation: answer.target_innovation_clips,
-            adaptive_innovation: answer.adaptive_innovation_clips,
-        },
-    })
+    ))
 }
