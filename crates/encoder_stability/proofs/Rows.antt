@@ -3,6 +3,7 @@ use mathlib.Core.Path.{◌≡◌, refl, ap, sym, ◌∙◌}
 use mathlib.Core.List.{List, [], ◌∷◌}
 use mathlib.Core.Logic.{inl, inr}
 use Prim.Native.Nat.{ℕ, ◌≤◌}
+use native.Mathlib.Omega.{arith}
 use lib.IntN.{ℤ}
 use Rattle.refusal.specs.Refused.{Told, values, refused, put}
 use Rattle.refusal.specs.Checks.{Check, checked, whole_or_nothing, length_is, predicted_exponent, power_fraction}
@@ -67,7 +68,7 @@ module _ (xs ys zs : List ℤ) (exponent : ℤ) (fraction : ℕ) where
   same_row q e h Unrestricted = e
   same_row q e h Resonance =
       let too = limits_of_the_entry xs ys zs exponent fraction q e in
-      let same : too.other ≡ q = of_index 1 too.other too.answered ∙ ap (chosen xs ys zs) (too.beside.equal h) ∙ sym (of_index 0 q e) in
+      let same : too.other ≡ q = of_index 1 too.other too.answered ∙ ap (chosen xs ys zs) (too.beside.equal (omega (arith, h))) ∙ sym (of_index 0 q e) in
       too.answered ∙ ap values same
 
   -- ---- refusals

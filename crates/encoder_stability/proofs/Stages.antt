@@ -1,6 +1,5 @@
 -- A refused stage leaves the watch as it was.
 use mathlib.Core.Path.{◌≡◌, ap}
-use mathlib.Core.Bool.{false}
 use mathlib.Core.List.{List}
 use Prim.Native.Nat.{ℕ}
 use lib.IntN.{ℤ}
@@ -10,9 +9,6 @@ use Rattle.encoder_stability.specs.declared.Stability.{Stability}
 use Rattle.encoder_stability.specs.Watch.{watched}
 
 module _ (w : Stability) (xs ys zs : List ℤ) (exponent : ℤ) (fraction : ℕ) (g : ℤ) where
-  pub kept_where_refused : accepts (watched w xs ys zs exponent fraction g).answer ≡ false → (watched w xs ys zs exponent fraction g).after ≡ w
-  unfolding watched
-  kept_where_refused = nothing w _
-
   pub kept_by_refusal : (n : ℕ) (d : ℤ) → (watched w xs ys zs exponent fraction g).answer ≡ refused n d → (watched w xs ys zs exponent fraction g).after ≡ w
-  kept_by_refusal n d e = kept_where_refused (ap accepts e)
+  unfolding watched
+  kept_by_refusal n d e = nothing w _ (ap accepts e)

@@ -6,7 +6,7 @@ use Rattle.gain_limit.specs.declared.GainLimit.{GainLimit}
 use Rattle.gain_limit.specs.declared.GainLimit.TheVariants.{Unrestricted, Resonance}
 use Rattle.encoder_stability.specs.declared.Stability.{Stability}
 use Rattle.encoder_stability.specs.declared.WatchedGain.{WatchedGain}
-use Rattle.encoder_stability.specs.Watch.{close, observed, limit_by, watched}
+use Rattle.encoder_stability.specs.Watch.{watch_of, close, observed, limit_by, watched}
 use Rattle.encoder_stability.specs.Runs.{Call, observe, stage, after_calls, gains_of}
 
 -- ---- the spectrum
@@ -41,9 +41,6 @@ Spectra =
     × (close (spectrum (pos 32001) (lows 600 599) (highs 1500 1500)) ≡ true)
 
 -- ---- the limit
-abbrev pub watch : ℕ → List ℤ → Stability
-watch count gains = record { count = count; gains_q11 = gains }
-
 -- an oldest gain, the next, and five of 0
 abbrev pub two_gains : ℤ → ℤ → List ℤ
 two_gains a b = a ∷ b ∷ replicate 5 (pos 0)
@@ -51,14 +48,14 @@ two_gains a b = a ∷ b ∷ replicate 5 (pos 0)
 unfoldable pub Limits : Type 0
 Limits =
     -- an eighth of 15566 is 1945, so that the sums are 15566 and 15565
-    (limit_by (watch 12 (two_gains (pos 13621) (pos 0))) (pos 15566) ≡ Resonance)
-    × (limit_by (watch 12 (two_gains (pos 13620) (pos 0))) (pos 15566) ≡ Unrestricted)
-    × (limit_by (watch 12 (two_gains (pos 20000) (pos 0))) (pos 15565) ≡ Unrestricted)
-    × (limit_by (watch 11 (two_gains (pos 13621) (pos 0))) (pos 15566) ≡ Unrestricted)
-    × (limit_by (watch 255 (two_gains (pos 13621) (pos 0))) (pos 15566) ≡ Resonance)
+    (limit_by (watch_of 12 (two_gains (pos 13621) (pos 0))) (pos 15566) ≡ Resonance)
+    × (limit_by (watch_of 12 (two_gains (pos 13620) (pos 0))) (pos 15566) ≡ Unrestricted)
+    × (limit_by (watch_of 12 (two_gains (pos 20000) (pos 0))) (pos 15565) ≡ Unrestricted)
+    × (limit_by (watch_of 11 (two_gains (pos 13621) (pos 0))) (pos 15566) ≡ Unrestricted)
+    × (limit_by (watch_of 255 (two_gains (pos 13621) (pos 0))) (pos 15566) ≡ Resonance)
     -- 2000 + 32767 is clipped before 17300 is taken off; the other way round nothing is
-    × (limit_by (watch 12 (two_gains (pos 32767) (negsuc 17299))) (pos 16000) ≡ Unrestricted)
-    × (limit_by (watch 12 (two_gains (negsuc 17299) (pos 32767))) (pos 16000) ≡ Resonance)
+    × (limit_by (watch_of 12 (two_gains (pos 32767) (negsuc 17299))) (pos 16000) ≡ Unrestricted)
+    × (limit_by (watch_of 12 (two_gains (negsuc 17299) (pos 32767))) (pos 16000) ≡ Resonance)
 
 -- ---- the stage, where all lists are 0
 abbrev pub silent : Stability → ℕ → Outcome WatchedGain Stability
@@ -70,12 +67,12 @@ seen = put (λ a. (a.gain.index, a.limit))
 unfoldable pub Stages : Type 0
 Stages =
     -- row 84 has a pitch gain of 15382, row 96 of 16396; the one given is 16000
-    (seen (silent (watch 12 (replicate 7 (pos 2000))) 0).answer ≡ values (84, Resonance))
-    × ((silent (watch 12 (replicate 7 (pos 2000))) 0).after ≡ watch 12 (replicate 6 (pos 2000) ++ pos 1922 ∷ []))
-    × (seen (silent (watch 11 (replicate 7 (pos 2000))) 0).answer ≡ values (96, Unrestricted))
-    × ((silent (watch 11 (replicate 7 (pos 2000))) 0).after ≡ watch 11 (replicate 6 (pos 2000) ++ pos 2049 ∷ []))
-    × ((silent (watch 12 (replicate 7 (pos 2000))) 32768).answer ≡ refused 14 (pos 32768))
-    × ((silent (watch 12 (replicate 7 (pos 2000))) 32768).after ≡ watch 12 (replicate 7 (pos 2000)))
+    (seen (silent (watch_of 12 (replicate 7 (pos 2000))) 0).answer ≡ values (84, Resonance))
+    × ((silent (watch_of 12 (replicate 7 (pos 2000))) 0).after ≡ watch_of 12 (replicate 6 (pos 2000) ++ pos 1922 ∷ []))
+    × (seen (silent (watch_of 11 (replicate 7 (pos 2000))) 0).answer ≡ values (96, Unrestricted))
+    × ((silent (watch_of 11 (replicate 7 (pos 2000))) 0).after ≡ watch_of 11 (replicate 6 (pos 2000) ++ pos 2049 ∷ []))
+    × ((silent (watch_of 12 (replicate 7 (pos 2000))) 32768).answer ≡ refused 14 (pos 32768))
+    × ((silent (watch_of 12 (replicate 7 (pos 2000))) 32768).after ≡ watch_of 12 (replicate 7 (pos 2000)))
 
 -- ---- calls since fresh, the latest first
 abbrev pub close_one : Call

@@ -13,9 +13,12 @@ use Rattle.gain.specs.Rows.{quantize}
 use Rattle.encoder_stability.specs.declared.Stability.{Stability}
 use Rattle.encoder_stability.specs.declared.WatchedGain.{WatchedGain}
 
+abbrev pub watch_of : ℕ → List ℤ → Stability
+watch_of count gains = record { count = count; gains_q11 = gains }
+
 -- 'A fresh watch has count 0 and seven zeros'
 abbrev pub fresh_watch : Stability
-fresh_watch = record { count = 0; gains_q11 = replicate 7 (pos 0) }
+fresh_watch = watch_of 0 (replicate 7 (pos 0))
 
 -- ---- the spectrum
 -- 'a value less the next, clipped': 'dist = sub(lsp[i], lsp[i+1])'
@@ -45,7 +48,7 @@ abbrev pub resonant : ℕ → Bool
 resonant count = leb 12 count
 
 abbrev pub with_count : Stability → ℕ → Outcome Bool Stability
-with_count w count = record { answer = values (resonant count); after = record { count = count; gains_q11 = w.gains_q11 } }
+with_count w count = record { answer = values (resonant count); after = watch_of count w.gains_q11 }
 
 -- 'A list of another length gets number 1; a refusal leaves the watch unchanged'
 unfoldable pub observed : Stability → List ℤ → Outcome Bool Stability
@@ -66,7 +69,7 @@ limit_by w g =
 -- ---- the stage
 -- 'the chosen row's pitch gain, shifted right by 3, enters the seven stored gains and the oldest leaves': 'st->gp[N_FRAME-1] = shr(g_pitch, 3)'
 abbrev pub pushed : Stability → ℤ → Stability
-pushed w g = record { count = w.count; gains_q11 = part w.gains_q11 1 6 ++ eighth g ∷ [] }
+pushed w g = watch_of w.count (part w.gains_q11 1 6 ++ eighth g ∷ [])
 
 -- a stage's row with the limit, and the watch after it
 abbrev pub with_row : Stability → GainLimit → QuantizedGain → WatchedGain × Stability

@@ -128,7 +128,6 @@ fn is_close(lsp: &[i16; 10]) -> bool
 }
 
 // Of `count` gaps, from the one after place `first` on.
-#[tactic(auto, using(crate::proofs::Gaps::next_gap))]
 fn any_gap_below(bound: i16, lsp: &[i16; 10], first: usize, count: usize) -> bool
     requires { first + count < 10 }
     ensures { result ≡ any_gap_below bound lsp.now first count }

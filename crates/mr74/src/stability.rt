@@ -12,7 +12,7 @@ use gain_limit::GainLimit;
 use refusal::Refusal;
 
 #[repr(C)]
-#[derive(Clone, Copy, Default)]
+#[derive(Clone, Copy)]
 pub struct SpectrumAnswer {
     pub number: u8,
     pub magnitude: u64,
@@ -74,7 +74,7 @@ fn limit_answer(limit: Result<GainLimit, Refusal>) -> LimitAnswer
 }
 
 #[repr(C)]
-#[derive(Clone, Copy, Default)]
+#[derive(Clone, Copy)]
 pub struct WatchedGainAnswer {
     pub gain: GainAnswer,
     pub limit: u8,

@@ -5,10 +5,7 @@ use Rattle.refusal.specs.Checks.{Check, Outcome, checked, unless_refused, length
 use Rattle.gain_limit.specs.declared.GainLimit.{GainLimit}
 use Rattle.encoder_stability.specs.declared.Stability.{Stability}
 use Rattle.encoder_stability.specs.declared.WatchedGain.{WatchedGain}
-use Rattle.encoder_stability.specs.Watch.{observed, limit_by, watched}
-
-abbrev pub watch_of : ℕ → List ℤ → Stability
-watch_of count gains = record { count = count; gains_q11 = gains }
+use Rattle.encoder_stability.specs.Watch.{watch_of, observed, limit_by, watched}
 
 -- ---- the spectrum: the count alone, since it neither reads nor changes the gains
 abbrev pub kept_count : Outcome Bool Stability → Outcome Bool ℕ

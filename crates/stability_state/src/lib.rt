@@ -11,7 +11,7 @@ use gain_limit::GainLimit;
 use refusal::{Refusal, Step};
 
 // A spectrum leaves the gains as they are, so they do not cross.
-#[tactic(auto, unfolding(crate::specs::Calls::spectrum_in_numbers, encoder_stability::specs::Watch::observed))]
+#[tactic(auto, unfolding(crate::specs::Calls::spectrum_in_numbers))]
 pub fn observe_spectrum(lsp_q15: &[i16], count: u8) -> Step<bool, u8>
     ensures { told_step result ≡ spectrum_in_numbers lsp_q15.now count }
 {
