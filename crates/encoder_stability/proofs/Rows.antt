@@ -68,7 +68,7 @@ module _ (xs ys zs : List ℤ) (exponent : ℤ) (fraction : ℕ) where
   same_row q e h Unrestricted = e
   same_row q e h Resonance =
       let too = limits_of_the_entry xs ys zs exponent fraction q e in
-      let same : too.other ≡ q = of_index 1 too.other too.answered ∙ ap (chosen xs ys zs) (too.beside.equal (omega (arith, h))) ∙ sym (of_index 0 q e) in
+      let same : too.other ≡ q = of_index 1 too.other too.answered ∙ ap (chosen xs ys zs) (too.beside.equal h) ∙ sym (of_index 0 q e) in
       too.answered ∙ ap values same
 
   -- ---- refusals
@@ -109,7 +109,7 @@ both_callers xs ys zs exponent fraction = (by_watch xs ys zs exponent fraction, 
 
 pub nothing_changes : NothingChanges
 unfolding NothingChanges watched
-nothing_changes w xs ys zs exponent fraction g q e h = let r = same_row xs ys zs exponent fraction q e h (limit_by w g) in rw r
+nothing_changes w xs ys zs exponent fraction g q e h = let r = same_row xs ys zs exponent fraction q e (omega (arith, h)) (limit_by w g) in rw r
 
 pub all_refusals : Refusals
 unfolding Refusals
