@@ -1,2 +1,3 @@
 -- What the contracts of `feed_lines` cite.
 pub mod Endings
+pub mod Printed

@@ -1,10 +1,13 @@
 // The program of 01, 'Feed and program': reads a feed and writes a line a record, both in blocks of 64 KB. The programs over it differ in their stored feeds alone.
 #![tactic(auto)]
 
-ghost use Rattle.std.specs.Prelude.{◌≡◌, ◌+◌, ◌*◌, ◌≤◌, ◌<◌, true, is_some, Ok, Err, IfErr, IfSome};
-ghost use Rattle.refusal.specs.Refused.{number};
+ghost use Rattle.std.specs.Prelude.{List, ◌≡◌, ◌+◌, ◌*◌, ◌≤◌, ◌<◌, true, is_some, Ok, Err, IfErr, IfSome, nat_abs, ℤ, pos, if◌then◌else◌};
+ghost use Rattle.std.specs.Int.Signed.{lt_z};
+ghost use Rattle.refusal.specs.Refused.{number, detail};
 ghost use Rattle.feed.specs.Records.{ends_feed};
+ghost use Rattle.selection_answers.specs.Lines.{told_answer};
 ghost use Rattle.feed_lines.specs.Endings.{Stops, stops};
+ghost use Rattle.feed_lines.specs.Printed.{told_fields};
 
 use open_loop::Detector;
 use pitch::UpperLag;
@@ -12,11 +15,14 @@ use refusal::Refusal;
 use selection::ClosedLoop;
 use selection_answers::Answer;
 use std::fmt::{Display, Formatter};
-use std::io::{Read, Write};
+use std::io::{Cursor, Read, Write};
 use std::{fmt, io};
 
 // A line begins at most here, and so fits the output block: it has at most 20 digits, a name, 160 numbers of at most 22 bytes and its end.
 const LAST_START: usize = 61440;
+
+// A sentence on how the printing ended has fewer bytes: at most 145, with two numbers of 20 digits.
+const SENTENCE_ROOM: usize = 256;
 
 // How the printing ended before the feed did.
 #[derive(Clone, Copy, Debug, PartialEq, Eq)]
@@ -93,15 +99,25 @@ fn print_block<W: Write>(
         };
         let answer = selection.step(feed, input.at, &mut words);
         lines.push(answer, &words)?;
+        input.at = place_behind(answer, input.at, next);
         if let Some(refusal) = feed_ending(answer) {
             return Err(Ended::Refused {
                 refusal,
                 place: input.place(),
             });
         }
-        input.at = next;
     }
     Ok(())
+}
+
+// Where the feed goes on behind the record at a place: one that ends the feed stays there.
+fn place_behind(answer: Result<Option<Answer>, Refusal>, at: usize, next: usize) -> usize
+    ensures { result ≡ (if stops answer then at else next) }
+{
+    match feed_ending(answer) {
+        Some(_) => at,
+        None => next,
+    }
 }
 
 // 01: 'After refusals 9 and 10 it stops', at that record.
@@ -241,11 +257,14 @@ impl<'w, W: Write> Lines<'w, W> {
         self.block.write_to(self.writer)
     }
 
-    // How the printing ended, as a sentence.
+    // How the printing ended, as a sentence, in one write: what another program writes there comes before it or behind it.
     fn report<E: Write>(&self, ended: Ended, errors: &mut E) {
         let number = self.number;
         let sentence = Sentence { ended, number };
-        let _ = write!(errors, "{sentence}");
+        let mut text = Cursor::new([0u8; SENTENCE_ROOM]);
+        let _ = write!(text, "{sentence}");
+        let length = (text.position() as usize).min(SENTENCE_ROOM);
+        let _ = errors.write_all(&text.get_ref()[..length]);
     }
 }
 
@@ -299,38 +318,19 @@ impl Block {
         requires { self.old.filled ≤ 61460 }
         ensures { self.new.filled ≤ self.old.filled + 3540 }
     {
-        match answer {
-            // Where the feed ends.
-            Ok(None) => {}
-            Ok(Some(Answer::Reset)) => self.push(*b" reset"),
-            Ok(Some(Answer::Open(lag))) => self.push_fields(*b" open", [lag.samples() as i32]),
-            Ok(Some(Answer::Pitch { index, lag, hertz })) => {
-                let thirds = i16::from(lag.fraction) as i32;
-                let fields = [index as i32, lag.samples as i32, thirds, hertz as i32];
-                self.push_fields(*b" pitch", fields)
-            }
-            Ok(Some(Answer::Pulses(words))) => {
-                self.push_fields(*b" pulses", [words.positions as i32, words.signs as i32])
-            }
-            Ok(Some(Answer::Gain(chosen))) => {
-                let row = chosen.row;
-                let fields = [
-                    chosen.index as i32,
-                    row.pitch_q14 as i32,
-                    row.correction_q12 as i32,
-                ];
-                self.push_fields(*b" gain", fields)
-            }
-            Ok(Some(Answer::Filter)) => self.push_words(words),
-            Ok(Some(Answer::Lag { lag, hertz })) => {
-                let thirds = i16::from(lag.fraction) as i32;
-                self.push_fields(*b" lag", [lag.samples as i32, thirds, hertz as i32])
-            }
-            Err(refusal) => {
-                let detail = refusal.detail();
+        match Fields::of(answer) {
+            Fields::None => {}
+            Fields::Reset => self.push(*b" reset"),
+            Fields::Open(fields) => self.push_fields(*b" open", fields),
+            Fields::Pitch(fields) => self.push_fields(*b" pitch", fields),
+            Fields::Pulses(fields) => self.push_fields(*b" pulses", fields),
+            Fields::Gain(fields) => self.push_fields(*b" gain", fields),
+            Fields::Filter => self.push_words(words),
+            Fields::Lag(fields) => self.push_fields(*b" lag", fields),
+            Fields::Refused(fields) => {
                 self.push(*b" refused");
-                self.push_signed(false, refusal.number() as u64);
-                self.push_signed(detail < 0, detail.unsigned_abs() as u64)
+                self.push_signed(false, fields.number as u64);
+                self.push_signed(fields.negative, fields.magnitude)
             }
         }
     }
@@ -429,6 +429,76 @@ impl Block {
         let start = self.filled;
         self.bytes[start..start + N].copy_from_slice(&text);
         self.filled = start + N;
+    }
+}
+
+// A line behind the record's number: what is printed of each kind, its name aside.
+#[derive(Clone, Copy)]
+enum Fields {
+    // Where the feed ends there is no line.
+    None,
+    Reset,
+    Open([i32; 1]),
+    Pitch([i32; 4]),
+    Pulses([i32; 2]),
+    Gain([i32; 3]),
+    // Its words stand beside it.
+    Filter,
+    Lag([i32; 3]),
+    Refused(RefusedFields),
+}
+
+impl Fields {
+    fn of(answer: Result<Option<Answer>, Refusal>) -> Self
+        ensures { (words : List ℤ) → told_fields result words ≡ told_answer answer words }
+    {
+        match answer {
+            Ok(None) => Fields::None,
+            Ok(Some(Answer::Reset)) => Fields::Reset,
+            Ok(Some(Answer::Open(lag))) => Fields::Open([lag.samples() as i32]),
+            Ok(Some(Answer::Pitch { index, lag, hertz })) => {
+                let thirds = i16::from(lag.fraction) as i32;
+                Fields::Pitch([index as i32, lag.samples as i32, thirds, hertz as i32])
+            }
+            Ok(Some(Answer::Pulses(words))) => {
+                Fields::Pulses([words.positions as i32, words.signs as i32])
+            }
+            Ok(Some(Answer::Gain(chosen))) => {
+                let row = chosen.row;
+                Fields::Gain([
+                    chosen.index as i32,
+                    row.pitch_q14 as i32,
+                    row.correction_q12 as i32,
+                ])
+            }
+            Ok(Some(Answer::Filter)) => Fields::Filter,
+            Ok(Some(Answer::Lag { lag, hertz })) => {
+                let thirds = i16::from(lag.fraction) as i32;
+                Fields::Lag([lag.samples as i32, thirds, hertz as i32])
+            }
+            Err(refusal) => Fields::Refused(RefusedFields::of(refusal)),
+        }
+    }
+}
+
+// A refusal's number, and its detail with the sign apart.
+#[derive(Clone, Copy)]
+struct RefusedFields {
+    number: u8,
+    negative: bool,
+    magnitude: u64,
+}
+
+impl RefusedFields {
+    fn of(refusal: Refusal) -> Self
+        ensures { result ≡ record { number = number refusal; negative = lt_z (detail refusal) (pos 0); magnitude = nat_abs (detail refusal) } }
+    {
+        let detail = refusal.detail();
+        RefusedFields {
+            number: refusal.number(),
+            negative: detail < 0,
+            magnitude: detail.unsigned_abs() as u64,
+        }
     }
 }
 

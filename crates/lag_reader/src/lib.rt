@@ -42,6 +42,7 @@ impl Reader {
     }
 
     #[tactic(auto, unfolding(crate::specs::Readers::read))]
+    #[inline(always)]
     pub fn read(self, subframe: u8, index: u8) -> Step<PitchLag, Self>
         ensures { told_step result ≡ read self subframe index }
     {

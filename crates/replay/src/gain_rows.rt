@@ -6,6 +6,7 @@ use std::io::{self, Read, Write};
 
 pub(crate) fn step<R: Read, W: Write>(input: &mut R, output: &mut W) -> io::Result<()> {
     let [targets, adaptives, innovations, a, b, c, d, limit] = records::bytes::<R, 8>(input)?;
+    records::fits(u16::from(targets) + u16::from(adaptives) + u16::from(innovations))?;
     let exponent = i16::from_be_bytes([a, b]);
     let fraction = u16::from_be_bytes([c, d]);
     let mut target_room = [0i16; 255];

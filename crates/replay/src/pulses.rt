@@ -29,6 +29,7 @@ fn reading<R: Read, W: Write>(input: &mut R, output: &mut W) -> io::Result<()> {
 
 fn search<R: Read, W: Write>(input: &mut R, output: &mut W) -> io::Result<()> {
     let [targets, impulses, a, b, c, d] = records::bytes::<R, 6>(input)?;
+    records::fits(u16::from(targets) + u16::from(impulses))?;
     let lag = u16::from_be_bytes([a, b]);
     let gain = SharpeningGain(i16::from_be_bytes([c, d]));
     let mut target_room = [0i16; 255];

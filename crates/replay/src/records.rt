@@ -15,6 +15,17 @@ pub(crate) fn byte<R: Read>(input: &mut R) -> io::Result<u8> {
     Ok(byte)
 }
 
+// The most words that a record has, in all its lists.
+const WORDS: u16 = 255;
+
+// With more than those it is no record, and the replay ends.
+pub(crate) fn fits(words: u16) -> io::Result<()> {
+    if WORDS < words {
+        return Err(io::ErrorKind::InvalidData.into());
+    }
+    Ok(())
+}
+
 // The next words, as many as a byte says.
 pub(crate) fn words<'a, R: Read>(
     input: &mut R,
